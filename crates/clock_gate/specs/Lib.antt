@@ -1,0 +1,6 @@
+pub mod ClockRow
+pub mod ClockStatus
+pub mod Memory
+pub mod Outside
+pub mod Stamp
+pub mod StampFields

@@ -1,0 +1,35 @@
+//! Units of time, the rows of a clock, and the outside: where bytes come from and where they go.
+//!
+//! A `Stamp` is a moment in whole nanoseconds, a `Reading` is what one row of a clock tells, a `ClockStatus`
+//! says how far a time can be trusted. A `Source` gives bytes and a `Sink` takes them: a call on either fails
+//! only where its count of faults rose in that call, and the bytes come and go in order. `MemSource` and
+//! `MemSink` tell what they hold and fail where they are told to; `StdSource` and `StdSink` stand over std's
+//! reader and writer and tell nothing of their content. Stands on std alone.
+#![tactic(auto)]
+
+mod clock;
+mod clock_row;
+mod clock_status;
+mod limits;
+mod list;
+mod mem_sink;
+mod mem_source;
+mod outside;
+mod stamp;
+mod std_sink;
+mod std_source;
+
+pub use clock::reading;
+pub use clock_row::{ClockRow, Reading};
+pub use clock_status::ClockStatus;
+pub use limits::{INPUT_LIMIT, LAST_MOMENT, MOST_HOST_ROWS};
+pub use list::List;
+pub use mem_sink::MemSink;
+pub use mem_source::MemSource;
+pub use outside::{Failed, Memory, Sink, Source};
+pub use stamp::{NANOS_PER_SECOND, Stamp};
+pub use std_sink::StdSink;
+pub use std_source::StdSource;
+
+#[cfg(test)]
+mod tests;
