@@ -1,0 +1,74 @@
+use super::*;
+use chrony_fraction::Packed;
+
+// A reply of the bound 244,142 ns.
+const REPLY: [u8; 104] = [
+    0x06, 0x02, 0x00, 0x00, 0x00, 0x21, 0x00, 0x05, 0x00, 0x00, 0x00, 0x00, 0x00, 0x00, 0x00, 0x00,
+    0x00, 0x00, 0x00, 0x01, 0x00, 0x00, 0x00, 0x00, 0x00, 0x00, 0x00, 0x00, 0xa9, 0xfe, 0xa9, 0x7b,
+    0xa9, 0xfe, 0xa9, 0x7b, 0x00, 0x00, 0x00, 0x00, 0x00, 0x00, 0x00, 0x00, 0x00, 0x00, 0x00, 0x00,
+    0x00, 0x01, 0x00, 0x00, 0x00, 0x04, 0x00, 0x00, 0x00, 0x00, 0x00, 0x00, 0x65, 0x00, 0x00, 0x00,
+    0x00, 0x00, 0x00, 0x00, 0xf7, 0xff, 0xff, 0xff, 0x00, 0x00, 0x00, 0x00, 0x00, 0x00, 0x00, 0x00,
+    0x00, 0x00, 0x00, 0x00, 0x00, 0x00, 0x00, 0x00, 0x00, 0x00, 0x00, 0x00, 0xec, 0x80, 0x00, 0x00,
+    0xea, 0x80, 0x00, 0x00, 0x00, 0x00, 0x00, 0x00,
+];
+
+// What it tells.
+fn tracking() -> Tracking {
+    Tracking {
+        sequence: 1,
+        ref_id: 0xa9fe_a97b,
+        address: 0xa9fe_a97b_0000_0000_0000_0000_0000_0000,
+        family: 1,
+        stratum: 4,
+        leap: Leap::Normal,
+        ref_time: RefTime {
+            high: 0,
+            low: 0x6500_0000,
+            nsec: 0,
+        },
+        current_correction: Packed(0xf7ff_ffff),
+        last_offset: Packed(0),
+        rms_offset: Packed(0),
+        freq_ppm: Packed(0),
+        resid_freq_ppm: Packed(0),
+        skew_ppm: Packed(0),
+        root_delay: Packed(0xec80_0000),
+        root_dispersion: Packed(0xea80_0000),
+        last_update_interval: Packed(0),
+    }
+}
+
+#[test]
+fn a_reply_is_read(rt: HostRuntime) {
+    assert_eq!(rt; read_reply(&REPLY), Ok(tracking()));
+}
+
+#[test]
+fn a_reply_with_one_byte_changed(rt: HostRuntime) {
+    for (place, byte, want) in [
+        (0, 0x05, Err(ReplyFault::Version)),
+        (1, 0x01, Err(ReplyFault::PacketType)),
+        (5, 0x22, Err(ReplyFault::Command)),
+        (7, 0x01, Err(ReplyFault::NotTracking)),
+        (9, 0x02, Err(ReplyFault::Status(2))),
+        (55, 0x04, Err(ReplyFault::Leap(4))),
+        (2, 0xff, Ok(tracking())),
+    ] {
+        let mut bytes = REPLY;
+        bytes[place] = byte;
+        assert_eq!(rt; read_reply(&bytes), want, "byte {place} as {byte}");
+    }
+}
+
+#[test]
+fn a_reply_of_another_length(rt: HostRuntime) {
+    let mut longer = [0; 120];
+    longer[..104].copy_from_slice(&REPLY);
+    for (message, bytes, want) in [
+        ("a header", &REPLY[..27], Err(ReplyFault::Short)),
+        ("one byte short", &REPLY[..103], Err(ReplyFault::Short)),
+        ("16 bytes more", &longer[..], Ok(tracking())),
+    ] {
+        assert_eq!(rt; read_reply(bytes), want, "{message}");
+    }
+}
