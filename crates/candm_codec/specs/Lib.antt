@@ -1,3 +1,5 @@
 pub mod Numbers
 pub mod FirstFault
 pub mod Reply
+pub mod Request
+pub mod Text

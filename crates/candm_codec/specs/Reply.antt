@@ -16,6 +16,12 @@ leap_at (suc zero) = Insert
 leap_at (suc (suc zero)) = Delete
 leap_at (suc (suc (suc n))) = Unsynchronised
 
+abbrev pub code_of : Leap → ℕ
+code_of Normal = 0
+code_of Insert = 1
+code_of Delete = 2
+code_of Unsynchronised = 3
+
 -- the fields at their places
 abbrev pub tracking_at : List ℕ → Tracking
 tracking_at bytes = record {

@@ -1,7 +1,10 @@
-//! The numbers of chrony's command protocol that mark its tracking messages. Source: candm.h.
+//! The numbers that mark chrony's tracking messages. Source: candm.h.
 
 /// The protocol version, byte 0 of each message.
 pub const VERSION: u8 = 6;
+
+/// The packet type of a request, byte 1.
+pub const REQUEST_PACKET: u8 = 1;
 
 /// The packet type of a reply, byte 1.
 pub const REPLY_PACKET: u8 = 2;
@@ -20,3 +23,7 @@ pub const LARGEST_LEAP: u16 = 3;
 
 /// The bytes of a tracking reply. Those after them are ignored (this project's rule).
 pub const REPLY_LENGTH: usize = 104;
+
+/// The bytes of a request for tracking: as many as of its reply, which chronyd wants, so that no reply is longer than
+/// what asked for it. Those after them are ignored (this project's rule).
+pub const REQUEST_LENGTH: usize = 104;

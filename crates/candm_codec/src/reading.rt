@@ -1,13 +1,16 @@
 ghost use Rattle.std.specs.Prelude.{◌≡◌, ◌≤◌, length, IfOk, IfErr, Some, Ok};
 ghost use Rattle.candm_codec.specs.FirstFault.{first_fault};
 ghost use Rattle.candm_codec.specs.Reply.{leap_at, tracking_at, IsTrackingReply, reply_tests, reply_of};
+ghost use Rattle.candm_codec.specs.Request.{request_at, IsTrackingRequest, request_tests, request_of};
+ghost use Rattle.candm_codec.specs.declared.request.Request.{Request};
 ghost use Rattle.candm_codec.specs.declared.tracking.Tracking.{Tracking};
 
 use crate::numbers::{u8_at, u16_at, u32_at, u128_at};
 use crate::protocol::{
-    COMMAND_TRACKING, LARGEST_LEAP, REPLY_LENGTH, REPLY_PACKET, REPLY_TRACKING, STATUS_SUCCESS,
-    VERSION,
+    COMMAND_TRACKING, LARGEST_LEAP, REPLY_LENGTH, REPLY_PACKET, REPLY_TRACKING, REQUEST_LENGTH,
+    REQUEST_PACKET, STATUS_SUCCESS, VERSION,
 };
+use crate::request::{Request, RequestFault};
 use crate::tracking::{Leap, RefTime, ReplyFault, Tracking};
 use chrony_fraction::Packed;
 
@@ -47,6 +50,37 @@ pub fn read_reply(bytes: &[u8]) -> Result<Tracking, ReplyFault>
         return Err(ReplyFault::Leap(leap));
     }
     Ok(tracking_at(bytes))
+}
+
+/// What the bytes of a request for tracking ask, or their first fault in the order of `RequestFault`. Reserved and pad
+/// bytes, and those after the 104th, may be anything. Source: candm.h; that a request has 104 bytes, and that longer
+/// ones are read, is this project's rule.
+#[tactic(auto, unfolding(crate::specs::Request::request_of))]
+pub fn read_request(bytes: &[u8]) -> Result<Request, RequestFault>
+    // What is read stands there.
+    ensures found { IfOk result (IsTrackingRequest bytes.now) }
+    // What stands there is read.
+    ensures only { (r : Request) → IsTrackingRequest bytes.now r → result ≡ Ok r }
+    // Else it is the first fault.
+    ensures fault { IfErr result (λ f. first_fault (request_tests bytes.now) ≡ Some f) }
+    ensures exact { result ≡ request_of bytes.now }
+{
+    if bytes.len() < REQUEST_LENGTH {
+        return Err(RequestFault::Short);
+    }
+    if u8_at(bytes, 0) != VERSION {
+        return Err(RequestFault::Version);
+    }
+    if u8_at(bytes, 1) != REQUEST_PACKET {
+        return Err(RequestFault::PacketType);
+    }
+    if u16_at(bytes, 4) != COMMAND_TRACKING {
+        return Err(RequestFault::Command);
+    }
+    Ok(Request {
+        sequence: u32_at(bytes, 8),
+        attempt: u16_at(bytes, 6),
+    })
 }
 
 fn tracking_at(bytes: &[u8]) -> Tracking

@@ -72,3 +72,43 @@ fn a_reply_of_another_length(rt: HostRuntime) {
         assert_eq!(rt; read_reply(bytes), want, "{message}");
     }
 }
+
+#[test]
+fn a_reply_is_written_as_it_was_read(rt: HostRuntime) {
+    assert_eq!(rt; write_reply(&tracking()), REPLY);
+    for leap in [Leap::Insert, Leap::Delete, Leap::Unsynchronised] {
+        let told = Tracking { leap, ..tracking() };
+        assert_eq!(rt; read_reply(&write_reply(&told)), Ok(told), "{leap:?}");
+    }
+}
+
+#[test]
+fn a_request_is_written_and_read(rt: HostRuntime) {
+    let mut want = [0; 104];
+    want[..12].copy_from_slice(&[
+        0x06, 0x01, 0x00, 0x00, 0x00, 0x21, 0x00, 0x01, 0x00, 0x00, 0x00, 0x05,
+    ]);
+    let bytes = write_request(5, 1);
+    assert_eq!(rt; bytes, want);
+    assert_eq!(rt;
+        read_request(&bytes),
+        Ok(Request {
+            sequence: 5,
+            attempt: 1
+        })
+    );
+    assert_eq!(rt; read_request(&bytes[..103]), Err(RequestFault::Short));
+}
+
+#[test]
+fn a_request_with_one_byte_changed(rt: HostRuntime) {
+    for (place, byte, fault) in [
+        (0, 0x05, RequestFault::Version),
+        (1, 0x02, RequestFault::PacketType),
+        (5, 0x22, RequestFault::Command),
+    ] {
+        let mut bytes = write_request(5, 1);
+        bytes[place] = byte;
+        assert_eq!(rt; read_request(&bytes), Err(fault), "byte {place} as {byte}");
+    }
+}
