@@ -21,6 +21,10 @@ pub record IsClockErrorBound (units n : ℕ) : Type 0 where
 abbrev pub ceil_div : ℕ → ℕ → ℕ
 ceil_div n d = (n + (d - 1)) / d
 
--- that least number, where it is at most the largest bound
+-- so many units in whole nanoseconds, rounded up
+abbrev pub ceil_nanos : ℕ → ℕ
+ceil_nanos units = ceil_div (1000000000 * units) (2 ^ 90)
+
+-- the least number that covers them, where it is at most the largest bound
 unfoldable pub clock_error_bound : ℕ → Option ℕ
-clock_error_bound units = let n = ceil_div (1000000000 * units) (2 ^ 90) in if nat_le n LARGEST_BOUND then Some n else None
+clock_error_bound units = if nat_le (ceil_nanos units) LARGEST_BOUND then Some (ceil_nanos units) else None

@@ -1,6 +1,6 @@
 ghost use Rattle.std.specs.Prelude.{◌≡◌, ◌≤◌, ◌*◌, ◌^◌, ◌≤ℤ◌, ◌+ℤ◌, pos, neg_ℤ, unsigned_abs, IfSome, IfNone};
 ghost use Rattle.chrony_fraction.specs.Packed.{units_above_zero, units_of_size};
-ghost use Rattle.chrony_fraction.specs.ClockError.{error_units, Covers, IsClockErrorBound, clock_error_bound};
+ghost use Rattle.chrony_fraction.specs.ClockError.{error_units, ceil_nanos, Covers, IsClockErrorBound, clock_error_bound};
 ghost use Rattle.chrony_fraction.specs.declared.clock_error.TheConstants.{LARGEST_BOUND};
 
 use crate::packed::Packed;
@@ -20,15 +20,23 @@ pub fn ceil_bound(delay: Packed, dispersion: Packed, correction: Packed) -> Opti
     ensures exact { result ≡ clock_error_bound (error_units delay.0 dispersion.0 correction.0) }
     ensures over { IfNone result (¬ Covers LARGEST_BOUND (error_units delay.0 dispersion.0 correction.0)) }
 {
-    let total = error_units(delay, dispersion, correction)?;
-    let whole = total >> 90;
-    let part = total % (1 << 90);
-    let bound = NANOS_PER_SEC * whole + (NANOS_PER_SEC * part).div_ceil(1 << 90);
+    let bound = ceil_nanos(error_units(delay, dispersion, correction)?);
     if bound <= u128::from(LARGEST_BOUND) {
         Some(bound as u64)
     } else {
         None
     }
+}
+
+// Units of 2^-90 s in whole nanoseconds, rounded up. The whole seconds are taken first, since all of the units times
+// 10^9 would pass 128 bits.
+fn ceil_nanos(units: u128) -> u128
+    ensures least { IsClockErrorBound units result }
+    ensures exact { result ≡ ceil_nanos units }
+{
+    let seconds = units >> 90;
+    let part = units % (1 << 90);
+    NANOS_PER_SEC * seconds + (NANOS_PER_SEC * part).div_ceil(1 << 90)
 }
 
 // Half the delay, the dispersion and the absolute correction, in units of 2^-90. None where they pass 128 bits.
