@@ -16,6 +16,7 @@ leap_at (suc zero) = Insert
 leap_at (suc (suc zero)) = Delete
 leap_at (suc (suc (suc n))) = Unsynchronised
 
+-- the code of a leap
 abbrev pub code_of : Leap → ℕ
 code_of Normal = 0
 code_of Insert = 1

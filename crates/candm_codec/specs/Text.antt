@@ -30,6 +30,7 @@ time_text time = spelled 4 time.high ++ spelled 4 time.low ++ spelled 4 time.nse
 unfoldable pub packed_text : Packed → Packed → Packed → List ℕ
 packed_text a b c = spelled 4 a.0 ++ spelled 4 b.0 ++ spelled 4 c.0
 
+-- the whole reply, of 104 bytes
 unfoldable pub reply_text : Tracking → List ℕ
 reply_text t =
     reply_header_text t.sequence ++ source_text t ++ time_text t.ref_time
@@ -43,5 +44,6 @@ request_header_text r =
     spelled 1 VERSION ++ spelled 1 REQUEST_PACKET ++ spelled 2 0
     ++ spelled 2 COMMAND_TRACKING ++ spelled 2 r.attempt ++ spelled 4 r.sequence
 
+-- the whole request, of 104 bytes
 unfoldable pub request_text : Request → List ℕ
 request_text r = request_header_text r ++ replicate 92 0

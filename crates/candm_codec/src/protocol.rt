@@ -24,6 +24,5 @@ pub const LARGEST_LEAP: u16 = 3;
 /// The bytes of a tracking reply. Those after them are ignored (this project's rule).
 pub const REPLY_LENGTH: usize = 104;
 
-/// The bytes of a request for tracking: as many as of its reply, which chronyd wants, so that no reply is longer than
-/// what asked for it. Those after them are ignored (this project's rule).
+/// The bytes of a request for tracking, as many as of its reply. Those after them are ignored (this project's rule).
 pub const REQUEST_LENGTH: usize = 104;

@@ -3,7 +3,7 @@
 pub struct Request {
     /// The number that the reply repeats, `uint32_t`; any number.
     pub sequence: u32,
-    /// How often this request was sent before, or 0 where the client does not count, `uint16_t`; any number.
+    /// How often the client sent this request before, counted from 0, `uint16_t`; any number.
     pub attempt: u16,
 }
 

@@ -1,4 +1,6 @@
 //! Numbers put at their places, the highest byte first. What stands before a place stays.
+//!
+//! Each call also tells its caller that the number fits its field, which is not known of a field behind a reference.
 ghost use Rattle.std.specs.Prelude.{◌≡◌, ◌+◌, ◌≤◌, ◌<◌, ◌^◌, ◌++◌, length, take};
 ghost use Rattle.candm_codec.specs.Numbers.{spelled};
 

@@ -1,3 +1,6 @@
+ghost use Rattle.std.specs.Prelude.{◌≡◌};
+ghost use Rattle.candm_codec.specs.Reply.{code_of};
+
 use chrony_fraction::Packed;
 
 /// Whether a leap second is announced, and whether the clock is synchronised at all. On the wire a `uint16_t`,
@@ -12,6 +15,20 @@ pub enum Leap {
     Delete,
     /// 3: the clock is not synchronised.
     Unsynchronised,
+}
+
+impl Leap {
+    /// The number that stands for it in a reply, from 0 to 3.
+    pub fn code(self) -> u16
+        ensures { result ≡ code_of self }
+    {
+        match self {
+            Leap::Normal => 0,
+            Leap::Insert => 1,
+            Leap::Delete => 2,
+            Leap::Unsynchronised => 3,
+        }
+    }
 }
 
 /// When the clock was last updated, as the three words of candm.h's `Timespec`. This project compares them, to tell

@@ -1,5 +1,5 @@
 ghost use Rattle.std.specs.Prelude.{◌≡◌, ◌+◌, ◌≤◌, ◌<◌, ◌^◌, ◌++◌, length, take, Ok};
-ghost use Rattle.candm_codec.specs.Reply.{code_of, IsTrackingReply, reply_of};
+ghost use Rattle.candm_codec.specs.Reply.{IsTrackingReply, reply_of};
 ghost use Rattle.candm_codec.specs.Request.{IsTrackingRequest, request_of};
 ghost use Rattle.candm_codec.specs.Text.{reply_header_text, source_text, time_text, packed_text, reply_text, request_header_text, request_text};
 
@@ -8,7 +8,7 @@ use crate::protocol::{
     STATUS_SUCCESS, VERSION,
 };
 use crate::spelling::{put_u8, put_u16, put_u32, put_u128};
-use crate::tracking::{Leap, RefTime, Tracking};
+use crate::tracking::{RefTime, Tracking};
 use chrony_fraction::Packed;
 
 /// The bytes of a tracking reply, with reserved and pad bytes as 0. Source: candm.h.
@@ -99,18 +99,7 @@ fn put_source(out: &mut [u8], t: &Tracking)
     put_u16(out, 48, t.family);
     put_u16(out, 50, 0);
     put_u16(out, 52, t.stratum);
-    put_u16(out, 54, leap_code(t.leap));
-}
-
-fn leap_code(leap: Leap) -> u16
-    ensures { result ≡ code_of leap }
-{
-    match leap {
-        Leap::Normal => 0,
-        Leap::Insert => 1,
-        Leap::Delete => 2,
-        Leap::Unsynchronised => 3,
-    }
+    put_u16(out, 54, t.leap.code());
 }
 
 #[tactic(auto, unfolding(crate::specs::Text::time_text))]

@@ -3,8 +3,8 @@
 //! A `Packed` is the 32-bit fraction of chrony's messages. `Packed::parts` takes it apart into a coefficient and a
 //! power of two, `Packed::from_parts` puts it together (`specs/Packed.antt`).
 //! `ceil_bound` is the least whole number of nanoseconds that is at least half the root delay, the root dispersion and
-//! the absolute correction together, as exact fractions (`specs/ClockError.antt`). No rounding stands in between, and
-//! no number of 32 bits makes it fail: where the bound exceeds `LARGEST_BOUND` the answer is `None`.
+//! the absolute correction together, as exact fractions (`specs/ClockError.antt`). Any numbers of 32 bits are taken, no
+//! rounding stands in between, and the answer is `None` exactly where the bound exceeds `LARGEST_BOUND`.
 #![tactic(auto)]
 
 mod clock_error;
