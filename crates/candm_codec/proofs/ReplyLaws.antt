@@ -106,8 +106,9 @@ reply_text-numbers t fits = record {
 
 tracking_at-numbers : (bytes : List ℕ) (t : Tracking) → HasNumbers bytes t → t ≡ tracking_at bytes
 tracking_at-numbers bytes t has =
-    rw (has.sequence, has.ref_id, has.address, has.family, has.stratum, has.leap, leap_at-code_of t.leap, has.high, has.low, has.nsec)
-    (rw (has.current_correction, has.last_offset, has.rms_offset, has.freq_ppm, has.resid_freq_ppm, has.skew_ppm, has.root_delay, has.root_dispersion, has.last_update_interval) refl)
+    rw (has.sequence, has.ref_id, has.address, has.family, has.stratum, has.leap, leap_at-code_of t.leap)
+    (rw (has.high, has.low, has.nsec, has.current_correction, has.last_offset, has.rms_offset)
+    (rw (has.freq_ppm, has.resid_freq_ppm, has.skew_ppm, has.root_delay, has.root_dispersion, has.last_update_interval) refl))
 
 stands-numbers : (bytes : List ℕ) (t : Tracking) → HasNumbers bytes t → IsTrackingReply bytes t
 stands-numbers bytes t has = record {

@@ -92,7 +92,8 @@ fn put_reply_header(out: &mut [u8], sequence: u32)
 fn put_source(out: &mut [u8], t: &Tracking)
     requires { 56 ≤ length out.old }
     ensures text { take 56 out.new ≡ take 28 out.old ++ source_text t.now }
-    ensures fits { (t.now.ref_id < 2 ^ 32) × (t.now.address < 2 ^ 128) × (t.now.family < 2 ^ 16) × (t.now.stratum < 2 ^ 16) }
+    ensures fits { (t.now.ref_id < 2 ^ 32) × (t.now.address < 2 ^ 128)
+        × (t.now.family < 2 ^ 16) × (t.now.stratum < 2 ^ 16) }
 {
     put_u32(out, 28, t.ref_id);
     put_u128(out, 32, t.address);

@@ -15,10 +15,12 @@ const NANOS_PER_SEC: u128 = 1_000_000_000;
 /// `None` exactly where the bound exceeds `LARGEST_BOUND`. Source: chrony's documentation, "tracking".
 #[tactic(auto, unfolding(crate::specs::ClockError::clock_error_bound))]
 pub fn ceil_bound(delay: Packed, dispersion: Packed, correction: Packed) -> Option<u64>
-    ensures least { IfSome result (IsClockErrorBound (error_units delay.0 dispersion.0 correction.0)) }
+    ensures least { IfSome result
+        (IsClockErrorBound (error_units delay.0 dispersion.0 correction.0)) }
     ensures within { IfSome result (λ bound. bound ≤ LARGEST_BOUND) }
     ensures exact { result ≡ clock_error_bound (error_units delay.0 dispersion.0 correction.0) }
-    ensures over { IfNone result (¬ Covers LARGEST_BOUND (error_units delay.0 dispersion.0 correction.0)) }
+    ensures over { IfNone result
+        (¬ Covers LARGEST_BOUND (error_units delay.0 dispersion.0 correction.0)) }
 {
     let bound = ceil_nanos(error_units(delay, dispersion, correction)?);
     if bound <= u128::from(LARGEST_BOUND) {

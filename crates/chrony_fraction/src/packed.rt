@@ -23,7 +23,9 @@ impl Packed {
     pub fn from_parts(coefficient: i32, exponent: i32) -> Option<Packed>
         ensures found { IsSome result ↔ IsInRange coefficient exponent }
         ensures value { IfSome result (λ p. packed_value p.0 ≡ (coefficient, exponent)) }
-        ensures only { (p : Packed) → p.0 < 2 ^ 32 → packed_value p.0 ≡ (coefficient, exponent) → result ≡ Some p }
+        // No other number has them.
+        ensures only { (p : Packed) → p.0 < 2 ^ 32 →
+            packed_value p.0 ≡ (coefficient, exponent) → result ≡ Some p }
     {
         if !(-(1 << 24)..1 << 24).contains(&coefficient) {
             return None;

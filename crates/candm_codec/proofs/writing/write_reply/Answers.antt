@@ -9,7 +9,10 @@ pub returns-clause-text : goal.returns-clause-text
 unfolding reply_text
 returns-clause-text c =
     let long : length c.put_packed-3.new.out ≡ 104 = omega arith in
-    sym (take_all 104 c.put_packed-3.new.out (omega arith)) ∙ c.put_packed-3.ensures.text ∙ rw (c.put_packed-2.ensures.text, c.put_packed.ensures.text, c.put_time.ensures.text, c.put_source.ensures.text, c.put_reply_header.ensures.text) refl
+    sym (take_all 104 c.put_packed-3.new.out (omega arith))
+    ∙ c.put_packed-3.ensures.text
+    ∙ rw (c.put_packed-2.ensures.text, c.put_packed.ensures.text, c.put_time.ensures.text, c.put_source.ensures.text)
+    (rw c.put_reply_header.ensures.text refl)
 
 pub returns-clause-stands : goal.returns-clause-stands
 returns-clause-stands c =

@@ -12,7 +12,9 @@ returns-clause-text c = search rules
 pub returns-clause-stands : goal.returns-clause-stands
 returns-clause-stands c =
     let request : Request = record { sequence = c.args.sequence; attempt = c.args.attempt } in
-    subst (λ (bytes : List ℕ). IsTrackingRequest bytes request) (sym (returns-clause-text c)) (request_text-stands request c.request_header.ensures.fits.0 c.request_header.ensures.fits.1)
+    let fits = c.request_header.ensures.fits in
+    subst (λ (bytes : List ℕ). IsTrackingRequest bytes request) (sym (returns-clause-text c))
+    (request_text-stands request fits.0 fits.1)
 
 pub returns-clause-back : goal.returns-clause-back
 returns-clause-back c = request_of-stands _ _ (returns-clause-stands c)
