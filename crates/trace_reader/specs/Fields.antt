@@ -1,0 +1,21 @@
+-- What one field says.
+use Rattle.std.specs.Prelude.{ℕ, Bool, ◌&&◌, List, length, Option, Some, None, nat_le, if◌then◌else◌}
+use Rattle.std.specs.Char.{is_ascii_digit}
+use Rattle.std.specs.List.{list_all}
+use Rattle.std.specs.Result.{result_ok}
+use Rattle.std.specs.Str.Parse.{digits_value}
+use Rattle.hex.specs.Hex.{decode_of}
+
+-- 1 to 20 decimal digits
+abbrev pub is_numeral : List ℕ → Bool
+is_numeral field = nat_le 1 (length field) && nat_le (length field) 20 && list_all is_ascii_digit field
+
+-- the number that they write, where it is in a range
+unfoldable pub number_in : ℕ → ℕ → List ℕ → Option ℕ
+number_in low high field =
+    let n = digits_value 10 field in
+    if is_numeral field && (nat_le low n && nat_le n high) then Some n else None
+
+-- the bytes that at most so many hexadecimal digits stand for, two digits a byte
+unfoldable pub bytes_in : ℕ → List ℕ → Option (List ℕ)
+bytes_in most field = if nat_le (length field) most then result_ok (decode_of field) else None

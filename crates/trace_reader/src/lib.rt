@@ -1,0 +1,17 @@
+//! The records of a csv-like text, what a field of a record says, and why a record is refused.
+//!
+//! `Records` stands on the kit's `csv` and is seen as the list of records that are still ahead: each `read` takes
+//! the first of them, and none is lost or changed on the way. `number` and `bytes_of` give what a field says
+//! exactly where it says it, and `None` everywhere else.
+#![tactic(auto)]
+
+mod fields;
+mod reason;
+mod records;
+
+pub use fields::{bytes_of, is_word, number};
+pub use reason::Reason;
+pub use records::Records;
+
+#[cfg(test)]
+mod tests;
