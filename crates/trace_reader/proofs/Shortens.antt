@@ -98,6 +98,16 @@ enough cfg (suc n) (suc m) s xs r a b = by (next_record cfg s [] [] xs) refl (λ
     by None is more = refl
     by (Some p) is more = ap (λ (rs : List (List (List ℕ))). p.0 ∷ rs) (more p is)
 
+-- a text has no more records than bytes
+pub length-records_from : (cfg : Config) (n : ℕ) (s : State) (xs : List ℕ) → ends_at_end s ≡ false → length (records_from cfg n s xs) ≤ length xs
+unfolding records_from
+length-records_from cfg zero s xs r = omega arith
+length-records_from cfg (suc n) s xs r = by (next_record cfg s [] [] xs) (λ p e. let after = shortens cfg s xs p r e in let most = length-records_from cfg n p.1 p.2 after.0 in omega (arith, most, after.1))
+  where
+    by : (o : Option Read) → ((p : Read) → o ≡ Some p → length (records_from cfg n p.1 p.2) + 1 ≤ length xs) → length (records_next (records_from cfg n) o) ≤ length xs
+    by None more = omega arith
+    by (Some p) more = let most = more p refl in omega (arith, most)
+
 -- no record is left
 pub records_left-none : (s : State) (xs : List ℕ) → next_record default_config s [] [] xs ≡ None → records_left s xs ≡ []
 unfolding records_from records_left

@@ -1,10 +1,10 @@
 -- What one field says.
-use Rattle.std.specs.Prelude.{ℕ, Bool, ◌&&◌, List, length, Option, Some, None, nat_le, if◌then◌else◌}
+use Rattle.std.specs.Prelude.{◌≡◌, ◌≤◌, ◌%◌, ℕ, Bool, ◌&&◌, List, length, Option, Some, None, nat_le, if◌then◌else◌}
 use Rattle.std.specs.Char.{is_ascii_digit}
-use Rattle.std.specs.List.{list_all}
+use Rattle.std.specs.List.{AllPass, list_all}
 use Rattle.std.specs.Result.{result_ok}
 use Rattle.std.specs.Str.Parse.{digits_value}
-use Rattle.hex.specs.Hex.{decode_of}
+use Rattle.hex.specs.Hex.{decode_of, is_hex_digit}
 
 -- 1 to 20 decimal digits
 abbrev pub is_numeral : List ℕ → Bool
@@ -15,6 +15,12 @@ unfoldable pub number_in : ℕ → ℕ → List ℕ → Option ℕ
 number_in low high field =
     let n = digits_value 10 field in
     if is_numeral field && (nat_le low n && nat_le n high) then Some n else None
+
+-- at most so many hexadecimal digits, two for each byte, in either case
+pub record IsHexOf (most : ℕ) (field : List ℕ) : Type 0 where
+  pub short : length field ≤ most
+  pub pairs : length field % 2 ≡ 0
+  pub digits : AllPass is_hex_digit field
 
 -- the bytes that at most so many hexadecimal digits stand for, two digits a byte
 unfoldable pub bytes_in : ℕ → List ℕ → Option (List ℕ)

@@ -1,9 +1,9 @@
 //! What one field says.
-ghost use Rattle.std.specs.Prelude.{◌≡◌, ◌≤◌, ◌^◌, ◌↔◌, IfOk, IfSome, IfNone, IsTrue, option_map, vec_items};
+ghost use Rattle.std.specs.Prelude.{◌≡◌, ◌≤◌, ◌^◌, ◌↔◌, IfOk, IfSome, IfNone, IsSome, IsTrue, option_map, vec_items};
 ghost use Rattle.std.specs.Char.{is_ascii_digit};
 ghost use Rattle.std.specs.List.{list_all};
 ghost use Rattle.std.specs.Str.Parse.{digits_value};
-ghost use Rattle.trace_reader.specs.Fields.{bytes_in, is_numeral, number_in};
+ghost use Rattle.trace_reader.specs.Fields.{IsHexOf, bytes_in, is_numeral, number_in};
 
 use hex::FromHexError;
 use std::alloc::{AllocError, Global};
@@ -38,8 +38,13 @@ pub fn number(field: &[u8], low: u64, high: u64) -> Option<u64>
 /// The bytes that at most `most_digits` hexadecimal digits stand for, two digits a byte, in either case. `None` exactly
 /// where there are more digits, an odd number of them, or another byte.
 #[tactic(auto, unfolding(crate::specs::Fields::bytes_in))]
-pub fn bytes_of(alloc: Global, field: &[u8], most_digits: usize) -> Result<Option<Vec<u8>>, AllocError>
-    ensures { IfOk result (λ bytes. option_map vec_items bytes ≡ bytes_in most_digits field.now) }
+pub fn bytes_of(
+    alloc: Global,
+    field: &[u8],
+    most_digits: usize,
+) -> Result<Option<Vec<u8>>, AllocError>
+    ensures value { IfOk result (λ bytes. option_map vec_items bytes ≡ bytes_in most_digits field.now) }
+    ensures found { IfOk result (λ bytes. IsSome bytes ↔ IsHexOf most_digits field.now) }
 {
     if field.len() > most_digits {
         return Ok(None);

@@ -1,5 +1,5 @@
 //! The records of a text, read one by one.
-ghost use Rattle.std.specs.Prelude.{◌≡◌, ◌∷◌, [], true, false, OnErr, IfOk};
+ghost use Rattle.std.specs.Prelude.{◌≡◌, ◌≤◌, ◌∷◌, [], true, false, length, OnErr, IfOk};
 ghost use Rattle.csv.specs.Reading.{error_kind};
 ghost use Rattle.csv.specs.Records.{fields_of};
 ghost use Rattle.trace_reader.specs.Records.{IsOutside, records_of};
@@ -33,9 +33,10 @@ impl<'a> Model for Records<'a> {
 }
 
 impl<'a> Records<'a> {
-    /// All records of a text.
+    /// All records of a text, no more than it has bytes.
     pub fn new(alloc: Global, bytes: &'a [u8]) -> Records<'a>
-        ensures { result ≡ records_of bytes.now }
+        ensures all { result ≡ records_of bytes.now }
+        ensures most { length result ≤ length bytes.now }
     {
         let reader = ReaderBuilder::new()
             .has_headers(false)

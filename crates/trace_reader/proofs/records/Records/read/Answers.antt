@@ -1,4 +1,4 @@
-use Rattle.std.proofs.Common.{◌≡◌, ◌∙◌, ◌∷◌, [], sym, refl}
+use Rattle.std.proofs.Common.{◌≡◌, ◌∙◌, sym, refl}
 use Rattle.trace_reader.specs.Records.{records_ahead}
 use Rattle.trace_reader.proofs.Ahead.{takes_none, takes_one}
 use Rattle.trace_reader.proofs.records.Records.read.Goals as goal
