@@ -1,4 +1,5 @@
 pub mod Ahead
 pub mod Digits
+pub mod Lines
 pub mod Numerals
 pub mod Shortens

@@ -32,7 +32,7 @@ in_field_rests cfg c = rests_if (c == cfg.delimiter) _ _ (λ e. cc e) (rests_if 
 
 start_record_rests : (cfg : Config) (c : ℕ) → Rests (start_record cfg c)
 start_record_rests cfg c =
-    rests_if (ends_with cfg.terminator c) _ _ (λ e. cc e)
+    rests_if (ends_with cfg.terminator c) _ _ (λ _. refl)
     (rests_if (is_byte cfg.comment c) _ _ (λ e. cc e)
     (rests_if (cfg.quoting && (c == cfg.quote)) _ _ (λ e. cc e) (in_field_rests cfg c)))
 
@@ -43,8 +43,8 @@ step_rests cfg st.InField c = in_field_rests cfg c
 step_rests cfg st.InQuoted c = rests_if (cfg.quoting && (c == cfg.quote)) _ _ (λ e. cc e) (rests_if (cfg.quoting && is_byte cfg.escape c) _ _ (λ e. cc e) (λ e. cc e))
 step_rests cfg st.InEscape c = λ e. cc e
 step_rests cfg st.AfterQuote c = rests_if (cfg.quoting && cfg.double_quote && (c == cfg.quote)) _ _ (λ e. cc e) (in_field_rests cfg c)
-step_rests cfg st.InComment c = rests_if (c == 10) _ _ (λ e. cc e) (λ e. cc e)
-step_rests cfg st.AfterCr c = rests_if (c == 10) _ _ (λ e. cc e) (start_record_rests cfg c)
+step_rests cfg st.InComment c = rests_if (c == 10) _ _ (λ _. refl) (λ e. cc e)
+step_rests cfg st.AfterCr c = rests_if (c == 10) _ _ (λ _. refl) (start_record_rests cfg c)
 
 -- what the read of a record leaves of the text xs
 record Leaves (xs : List ℕ) (p : Read) : Type 0 where
@@ -77,7 +77,7 @@ leaves cfg s fields field (c ∷ xs) p e = by (is_end (step cfg s c).1) refl e (
 -- between two records, an empty text has no record
 has_bytes : (cfg : Config) (s : State) (xs : List ℕ) (p : Read) → ends_at_end s ≡ false → next_record cfg s [] [] xs ≡ Some p → 0 < length xs
 unfolding next_record
-has_bytes cfg s [] p r e = absurd (cc (r, rw r at e))
+has_bytes cfg s [] p r e = absurd (cc (rw r at e))
 has_bytes cfg s (c ∷ xs) p r e = omega arith
 
 -- between two records, the read of one leaves a shorter text, again between two records

@@ -1,7 +1,8 @@
 //! The records of a text, read one by one.
 ghost use Rattle.std.specs.Prelude.{◌≡◌, ◌≤◌, ◌∷◌, [], true, false, length, OnErr, IfOk};
-ghost use Rattle.csv.specs.Reading.{error_kind};
+ghost use Rattle.csv.specs.Reading.{error_kind, strip_bom};
 ghost use Rattle.csv.specs.Records.{fields_of};
+ghost use Rattle.trace_reader.specs.Plain.{IsPlain, rows_of};
 ghost use Rattle.trace_reader.specs.Records.{IsOutside, records_of};
 
 use csv::{ByteRecord, Error, ErrorKind, Reader, ReaderBuilder};
@@ -37,6 +38,9 @@ impl<'a> Records<'a> {
     pub fn new(alloc: Global, bytes: &'a [u8]) -> Records<'a>
         ensures all { result ≡ records_of bytes.now }
         ensures most { length result ≤ length bytes.now }
+
+        // Where nothing is quoted these are the lines that aren't empty, each parted at its commas.
+        ensures plain { IsPlain (strip_bom bytes.now) → result ≡ rows_of (strip_bom bytes.now) }
     {
         let reader = ReaderBuilder::new()
             .has_headers(false)
