@@ -1,0 +1,5 @@
+pub mod Numbers
+pub mod ClockPage
+pub mod Page
+pub mod Words
+pub mod Counting
