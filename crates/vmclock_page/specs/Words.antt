@@ -34,7 +34,7 @@ status_word pads p =
 -- the words of a page in their order, with this number in the two pad bytes
 abbrev pub page_words : ℕ → ClockPage → List ℕ
 page_words pads p =
-    MAGIC + p.size * 2 ^ 32
+    (MAGIC + p.size * 2 ^ 32)
     ∷ word_with_count (constant_half p) p.seq_count
     ∷ p.disruption_marker
     ∷ p.flags

@@ -12,8 +12,12 @@ mod layout;
 mod numbers;
 mod page;
 mod reading;
+mod words;
+mod writing;
 
 pub use counting::page_number;
 pub use fault::PageFault;
 pub use page::Page;
 pub use reading::read_page;
+pub use words::{from_words, to_words};
+pub use writing::write_page;
