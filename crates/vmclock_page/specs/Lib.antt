@@ -1,5 +1,6 @@
 pub mod Numbers
 pub mod ClockPage
+pub mod Bounds
 pub mod Page
 pub mod Words
 pub mod Counting

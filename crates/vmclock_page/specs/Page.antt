@@ -1,6 +1,6 @@
 -- The VMClock page of this profile: 104 bytes, little-endian, by the places of its fields. The fields are those of
 -- vmclock-abi.h; their places are this project's own.
-use Rattle.std.specs.Prelude.{◌≡◌, ℕ, ◌≤◌, ◌<◌, ◌^◌, ◌%◌, Bool, List, [], ◌∷◌, ◌++◌, length, Option, Some, None, Result, Ok, Err, nat_le, ◌==◌, if◌then◌else◌}
+use Rattle.std.specs.Prelude.{◌≡◌, ℕ, ◌≤◌, ◌%◌, Bool, List, [], ◌∷◌, ◌++◌, length, Option, Some, None, Result, Ok, Err, nat_le, ◌==◌, if◌then◌else◌}
 use Rattle.vmclock_page.specs.Numbers.{number, spelled}
 use Rattle.vmclock_page.specs.ClockPage.{ClockPage}
 use Rattle.vmclock_page.specs.declared.layout.TheConstants.{MAGIC, VERSION, PAGE_BYTES}
@@ -92,40 +92,3 @@ time_text p =
 -- the bytes of a page, front to back
 unfoldable pub page_text : ClockPage → List ℕ
 page_text p = header_text p ++ status_text p ++ counter_text p ++ time_text p
-
--- what a `Page` keeps of its numbers: those of the header, a size that holds the page and an even sequence count
-pub record IsHeader (p : ClockPage) : Type 0 where
-  pub large : PAGE_BYTES ≤ p.size
-  pub size : p.size < 2 ^ 32
-  pub counter_id : p.counter_id < 2 ^ 8
-  pub time_type : p.time_type < 2 ^ 8
-  pub even : p.seq_count % 2 ≡ 0
-  pub seq_count : p.seq_count < 2 ^ 32
-
-pub record IsStatus (p : ClockPage) : Type 0 where
-  pub disruption_marker : p.disruption_marker < 2 ^ 64
-  pub flags : p.flags < 2 ^ 64
-  pub clock_status : p.clock_status < 2 ^ 8
-  pub leap_second_smearing_hint : p.leap_second_smearing_hint < 2 ^ 8
-  pub tai_offset_sec : p.tai_offset_sec < 2 ^ 16
-  pub leap_indicator : p.leap_indicator < 2 ^ 8
-  pub counter_period_shift : p.counter_period_shift < 2 ^ 8
-
-pub record IsCounter (p : ClockPage) : Type 0 where
-  pub counter_value : p.counter_value < 2 ^ 64
-  pub counter_period_frac_sec : p.counter_period_frac_sec < 2 ^ 64
-  pub counter_period_esterror_rate_frac_sec : p.counter_period_esterror_rate_frac_sec < 2 ^ 64
-  pub counter_period_maxerror_rate_frac_sec : p.counter_period_maxerror_rate_frac_sec < 2 ^ 64
-
-pub record IsTime (p : ClockPage) : Type 0 where
-  pub time_sec : p.time_sec < 2 ^ 64
-  pub time_frac_sec : p.time_frac_sec < 2 ^ 64
-  pub time_esterror_nanosec : p.time_esterror_nanosec < 2 ^ 64
-  pub time_maxerror_nanosec : p.time_maxerror_nanosec < 2 ^ 64
-
--- all that a `Page` keeps
-pub record IsPage (p : ClockPage) : Type 0 where
-  pub header : IsHeader p
-  pub status : IsStatus p
-  pub counter : IsCounter p
-  pub time : IsTime p

@@ -1,5 +1,5 @@
 -- A page as 13 words of 64 bits, each little-endian in 8 of the page's bytes.
-use Rattle.std.specs.Prelude.{ℕ, ◌+◌, ◌*◌, ◌%◌, ◌^◌, List, [], ◌∷◌, slice_index}
+use Rattle.std.specs.Prelude.{ℕ, ◌+◌, ◌*◌, ◌/◌, ◌%◌, ◌^◌, List, [], ◌∷◌, slice_index}
 use Rattle.std.specs.List.{flat_map}
 use Rattle.byteorder.specs.Endian.{little_bytes}
 use Rattle.vmclock_page.specs.Numbers.{number}
@@ -20,6 +20,10 @@ bytes_of_words words = flat_map (little_bytes 8) words
 -- word 1: its lower half never changes, and its upper half is the sequence count
 abbrev pub word_with_count : ℕ → ℕ → ℕ
 word_with_count constant count = constant + count * 2 ^ 32
+
+-- the sequence count in word 1
+abbrev pub count_in_word : ℕ → ℕ
+count_in_word word = word / 2 ^ 32
 
 -- the lower half of word 1: version, counter and kind of time
 abbrev pub constant_half : ClockPage → ℕ

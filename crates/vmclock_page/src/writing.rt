@@ -1,84 +1,55 @@
 //! A page as bytes, field by field from the front.
 ghost use Rattle.std.specs.Prelude.{◌≡◌, ◌+◌, ◌≤◌, ◌<◌, ◌^◌, ◌++◌, length, take, Ok};
 ghost use Rattle.vmclock_page.specs.Numbers.{number, spelled};
-ghost use Rattle.vmclock_page.specs.Page.{IsClockPage, IsHeader, IsStatus, IsCounter, IsTime, page_of, header_text, status_text, counter_text, time_text, page_text};
+ghost use Rattle.vmclock_page.specs.Bounds.{HeaderFits, StatusFits, CounterFits, TimeFits, KeepsBounds};
+ghost use Rattle.vmclock_page.specs.Page.{IsClockPage, page_of, header_text, status_text, counter_text, time_text, page_text};
 
 use crate::layout::{MAGIC, PAGE_BYTES, VERSION};
 use crate::page::Page;
+use byteorder::{ByteOrder, LittleEndian};
 
+// A number at a place: what stands before it stays.
 #[tactic(auto, unfolding(crate::specs::Numbers::spelled))]
-fn spell_u8(x: u8) -> [u8; 1]
-    ensures { result ≡ spelled 1 x }
-{
-    [x]
-}
-
-#[tactic(auto, unfolding(crate::specs::Numbers::spelled))]
-fn spell_u16(x: u16) -> [u8; 2]
-    ensures { result ≡ spelled 2 x }
-{
-    x.to_le_bytes()
-}
-
-#[tactic(auto, unfolding(crate::specs::Numbers::spelled))]
-fn spell_u32(x: u32) -> [u8; 4]
-    ensures { result ≡ spelled 4 x }
-{
-    x.to_le_bytes()
-}
-
-#[tactic(auto, unfolding(crate::specs::Numbers::spelled))]
-fn spell_u64(x: u64) -> [u8; 8]
-    ensures { result ≡ spelled 8 x }
-{
-    x.to_le_bytes()
-}
-
-// Bytes at a place: what stands before them stays.
-fn put(out: &mut [u8], at: usize, bytes: &[u8])
-    requires { at + length bytes.now ≤ length out.old }
-    ensures { take (at + length bytes.now) out.new ≡ take at out.old ++ bytes.now }
-{
-    out[at..at + bytes.len()].copy_from_slice(bytes);
-}
-
 fn put_u8(out: &mut [u8], at: usize, x: u8)
     requires { at + 1 ≤ length out.old }
     ensures text { take (at + 1) out.new ≡ take at out.old ++ spelled 1 x }
     ensures fits { x < 2 ^ 8 }
 {
-    put(out, at, &spell_u8(x));
+    out[at] = x;
 }
 
+#[tactic(auto, unfolding(crate::specs::Numbers::spelled))]
 fn put_u16(out: &mut [u8], at: usize, x: u16)
     requires { at + 2 ≤ length out.old }
     ensures text { take (at + 2) out.new ≡ take at out.old ++ spelled 2 x }
     ensures fits { x < 2 ^ 16 }
 {
-    put(out, at, &spell_u16(x));
+    LittleEndian::write_u16(&mut out[at..at + 2], x);
 }
 
+#[tactic(auto, unfolding(crate::specs::Numbers::spelled))]
 fn put_u32(out: &mut [u8], at: usize, x: u32)
     requires { at + 4 ≤ length out.old }
     ensures text { take (at + 4) out.new ≡ take at out.old ++ spelled 4 x }
     ensures fits { x < 2 ^ 32 }
 {
-    put(out, at, &spell_u32(x));
+    LittleEndian::write_u32(&mut out[at..at + 4], x);
 }
 
+#[tactic(auto, unfolding(crate::specs::Numbers::spelled))]
 fn put_u64(out: &mut [u8], at: usize, x: u64)
     requires { at + 8 ≤ length out.old }
     ensures text { take (at + 8) out.new ≡ take at out.old ++ spelled 8 x }
     ensures fits { x < 2 ^ 64 }
 {
-    put(out, at, &spell_u64(x));
+    LittleEndian::write_u64(&mut out[at..at + 8], x);
 }
 
 #[tactic(auto, unfolding(crate::specs::Page::header_text))]
 fn put_header(out: &mut [u8], page: &Page)
     requires { 16 ≤ length out.old }
     ensures text { take 16 out.new ≡ header_text page.now }
-    ensures kept { IsHeader page.now }
+    ensures fits { HeaderFits page.now }
 {
     put_u32(out, 0, MAGIC);
     put_u32(out, 4, page.size);
@@ -92,7 +63,7 @@ fn put_header(out: &mut [u8], page: &Page)
 fn put_status(out: &mut [u8], page: &Page)
     requires { 40 ≤ length out.old }
     ensures text { take 40 out.new ≡ take 16 out.old ++ status_text page.now }
-    ensures kept { IsStatus page.now }
+    ensures fits { StatusFits page.now }
 {
     put_u64(out, 16, page.disruption_marker);
     put_u64(out, 24, page.flags);
@@ -108,7 +79,7 @@ fn put_status(out: &mut [u8], page: &Page)
 fn put_counter(out: &mut [u8], page: &Page)
     requires { 72 ≤ length out.old }
     ensures text { take 72 out.new ≡ take 40 out.old ++ counter_text page.now }
-    ensures kept { IsCounter page.now }
+    ensures fits { CounterFits page.now }
 {
     put_u64(out, 40, page.counter_value);
     put_u64(out, 48, page.counter_period_frac_sec);
@@ -120,7 +91,7 @@ fn put_counter(out: &mut [u8], page: &Page)
 fn put_time(out: &mut [u8], page: &Page)
     requires { 104 ≤ length out.old }
     ensures text { take 104 out.new ≡ take 72 out.old ++ time_text page.now }
-    ensures kept { IsTime page.now }
+    ensures fits { TimeFits page.now }
 {
     put_u64(out, 72, page.time_sec);
     put_u64(out, 80, page.time_frac_sec);
@@ -132,10 +103,12 @@ fn put_time(out: &mut [u8], page: &Page)
 #[tactic(auto, unfolding(crate::specs::Page::page_text))]
 pub fn write_page(page: &Page) -> [u8; 104]
     ensures text { result ≡ page_text page.now }
-    // The bytes stand for the page.
+    // The bytes stand for the page, and are read as it.
     ensures stands { IsClockPage result page.now }
-    ensures pads { number 2 32 result ≡ 0 }
     ensures back { page_of result ≡ Ok page.now }
+    ensures pads { number 2 32 result ≡ 0 }
+    // What holds of every page.
+    ensures kept { KeepsBounds page.now }
 {
     let mut out = [0; 104];
     put_header(&mut out, page);
