@@ -1,5 +1,5 @@
 -- What is written is read again.
-use Rattle.std.proofs.Common.{◌≡◌, ◌≤◌, ◌<◌, ◌^◌, ◌%◌, ◌==◌, true, length, drop, Ok, refl, sym, ap, arith}
+use Rattle.std.proofs.Common.{◌≡◌, true, length, drop, Ok, refl, sym, ap, arith}
 use Rattle.std.specs.Prelude.{nat_le}
 use Rattle.std.proofs.lemmas.Bool.Decides.{nat_tests}
 use Rattle.byteorder.specs.Numbers.{little_number-reads_back}
@@ -7,7 +7,7 @@ use Rattle.vmclock_page.specs.ClockPage.{ClockPage}
 use Rattle.vmclock_page.specs.Bounds.{KeepsBounds}
 use Rattle.vmclock_page.specs.Numbers.{number, spelled}
 use Rattle.vmclock_page.specs.Page.{IsClockPage, page_at, page_of, header_text, status_text, counter_text, time_text, page_text}
-use Rattle.vmclock_page.specs.declared.layout.TheConstants.{MAGIC, VERSION, PAGE_BYTES}
+use Rattle.vmclock_page.specs.declared.layout.TheConstants.{MAGIC, VERSION}
 
 pub pads_back : (p : ClockPage) → number 2 32 (page_text p) ≡ 0
 unfolding spelled header_text status_text counter_text time_text page_text number
@@ -44,7 +44,8 @@ module _ (p : ClockPage) (kept : KeepsBounds p) where
 
   disruption_marker_back : number 8 16 (page_text p) ≡ p.disruption_marker
   unfolding spelled header_text status_text counter_text time_text page_text number
-  disruption_marker_back = little_number-reads_back 8 p.disruption_marker (drop 24 (page_text p)) kept.status.disruption_marker
+  disruption_marker_back =
+      little_number-reads_back 8 p.disruption_marker (drop 24 (page_text p)) kept.status.disruption_marker
 
   flags_back : number 8 24 (page_text p) ≡ p.flags
   unfolding spelled header_text status_text counter_text time_text page_text number
@@ -56,7 +57,8 @@ module _ (p : ClockPage) (kept : KeepsBounds p) where
 
   leap_second_smearing_hint_back : number 1 35 (page_text p) ≡ p.leap_second_smearing_hint
   unfolding spelled header_text status_text counter_text time_text page_text number
-  leap_second_smearing_hint_back = little_number-reads_back 1 p.leap_second_smearing_hint (drop 36 (page_text p)) kept.status.leap_second_smearing_hint
+  leap_second_smearing_hint_back =
+      little_number-reads_back 1 p.leap_second_smearing_hint (drop 36 (page_text p)) kept.status.leap_second_smearing_hint
 
   tai_offset_sec_back : number 2 36 (page_text p) ≡ p.tai_offset_sec
   unfolding spelled header_text status_text counter_text time_text page_text number
@@ -68,7 +70,8 @@ module _ (p : ClockPage) (kept : KeepsBounds p) where
 
   counter_period_shift_back : number 1 39 (page_text p) ≡ p.counter_period_shift
   unfolding spelled header_text status_text counter_text time_text page_text number
-  counter_period_shift_back = little_number-reads_back 1 p.counter_period_shift (drop 40 (page_text p)) kept.status.counter_period_shift
+  counter_period_shift_back =
+      little_number-reads_back 1 p.counter_period_shift (drop 40 (page_text p)) kept.status.counter_period_shift
 
   counter_value_back : number 8 40 (page_text p) ≡ p.counter_value
   unfolding spelled header_text status_text counter_text time_text page_text number
@@ -76,15 +79,18 @@ module _ (p : ClockPage) (kept : KeepsBounds p) where
 
   counter_period_frac_sec_back : number 8 48 (page_text p) ≡ p.counter_period_frac_sec
   unfolding spelled header_text status_text counter_text time_text page_text number
-  counter_period_frac_sec_back = little_number-reads_back 8 p.counter_period_frac_sec (drop 56 (page_text p)) kept.counter.counter_period_frac_sec
+  counter_period_frac_sec_back =
+      little_number-reads_back 8 p.counter_period_frac_sec (drop 56 (page_text p)) kept.counter.counter_period_frac_sec
 
   counter_period_esterror_rate_frac_sec_back : number 8 56 (page_text p) ≡ p.counter_period_esterror_rate_frac_sec
   unfolding spelled header_text status_text counter_text time_text page_text number
-  counter_period_esterror_rate_frac_sec_back = little_number-reads_back 8 p.counter_period_esterror_rate_frac_sec (drop 64 (page_text p)) kept.counter.counter_period_esterror_rate_frac_sec
+  counter_period_esterror_rate_frac_sec_back =
+      little_number-reads_back 8 p.counter_period_esterror_rate_frac_sec (drop 64 (page_text p)) kept.counter.counter_period_esterror_rate_frac_sec
 
   counter_period_maxerror_rate_frac_sec_back : number 8 64 (page_text p) ≡ p.counter_period_maxerror_rate_frac_sec
   unfolding spelled header_text status_text counter_text time_text page_text number
-  counter_period_maxerror_rate_frac_sec_back = little_number-reads_back 8 p.counter_period_maxerror_rate_frac_sec (drop 72 (page_text p)) kept.counter.counter_period_maxerror_rate_frac_sec
+  counter_period_maxerror_rate_frac_sec_back =
+      little_number-reads_back 8 p.counter_period_maxerror_rate_frac_sec (drop 72 (page_text p)) kept.counter.counter_period_maxerror_rate_frac_sec
 
   time_sec_back : number 8 72 (page_text p) ≡ p.time_sec
   unfolding spelled header_text status_text counter_text time_text page_text number
@@ -96,14 +102,21 @@ module _ (p : ClockPage) (kept : KeepsBounds p) where
 
   time_esterror_nanosec_back : number 8 88 (page_text p) ≡ p.time_esterror_nanosec
   unfolding spelled header_text status_text counter_text time_text page_text number
-  time_esterror_nanosec_back = little_number-reads_back 8 p.time_esterror_nanosec (drop 96 (page_text p)) kept.time.time_esterror_nanosec
+  time_esterror_nanosec_back =
+      little_number-reads_back 8 p.time_esterror_nanosec (drop 96 (page_text p)) kept.time.time_esterror_nanosec
 
   time_maxerror_nanosec_back : number 8 96 (page_text p) ≡ p.time_maxerror_nanosec
   unfolding spelled header_text status_text counter_text time_text page_text number
-  time_maxerror_nanosec_back = little_number-reads_back 8 p.time_maxerror_nanosec (drop 104 (page_text p)) kept.time.time_maxerror_nanosec
+  time_maxerror_nanosec_back =
+      little_number-reads_back 8 p.time_maxerror_nanosec (drop 104 (page_text p)) kept.time.time_maxerror_nanosec
 
   pub fields_back : page_at (page_text p) ≡ p
-  fields_back = rw (size_back, counter_id_back, time_type_back, seq_count_back, disruption_marker_back, flags_back, clock_status_back, leap_second_smearing_hint_back, tai_offset_sec_back, leap_indicator_back, counter_period_shift_back, counter_value_back, counter_period_frac_sec_back, counter_period_esterror_rate_frac_sec_back, counter_period_maxerror_rate_frac_sec_back, time_sec_back, time_frac_sec_back, time_esterror_nanosec_back, time_maxerror_nanosec_back) refl
+  fields_back =
+      rw (size_back, counter_id_back, time_type_back, seq_count_back, disruption_marker_back, flags_back)
+      (rw (clock_status_back, leap_second_smearing_hint_back, tai_offset_sec_back, leap_indicator_back)
+      (rw (counter_period_shift_back, counter_value_back, counter_period_frac_sec_back)
+      (rw (counter_period_esterror_rate_frac_sec_back, counter_period_maxerror_rate_frac_sec_back)
+      (rw (time_sec_back, time_frac_sec_back, time_esterror_nanosec_back, time_maxerror_nanosec_back) refl))))
 
   pub stands : IsClockPage (page_text p) p
   stands = record {
@@ -119,4 +132,5 @@ module _ (p : ClockPage) (kept : KeepsBounds p) where
   unfolding page_of
   read_back =
       let large : nat_le 104 p.size ≡ true = let h = kept.header.large in grind (arith, nat_tests) in
-      rw (whole, magic_back, version_back, size_back, seq_count_back, large, kept.header.even) (ap Ok fields_back)
+      rw (whole, magic_back, version_back, size_back, seq_count_back, large, kept.header.even)
+      (ap Ok fields_back)

@@ -1,5 +1,5 @@
 -- Words and the bytes that they stand in.
-use Rattle.std.proofs.Common.{◌≡◌, ◌≤◌, ◌<◌, ◌+◌, ◌*◌, ◌/◌, ◌%◌, ◌^◌, ◌∙◌, ℕ, zero, suc, List, [], ◌∷◌, ◌++◌, length, drop, slice_index, refl, sym, ap, arith, add-suc}
+use Rattle.std.proofs.Common.{◌≡◌, ◌<◌, ◌+◌, ◌*◌, ◌^◌, ◌∙◌, ℕ, zero, suc, List, [], ◌∷◌, length, drop, slice_index, refl, sym, ap, arith, add-suc}
 use Rattle.std.proofs.lemmas.List.{get_or-drop, drop_all}
 use Rattle.std.proofs.Math.Seq.{drop-cons, drop-append-add}
 use Rattle.byteorder.specs.Endian.{little_from, little_number, little_bytes, IsRead}

@@ -1,17 +1,19 @@
 -- A page as 13 words of 64 bits, each little-endian in 8 of the page's bytes.
-use Rattle.std.specs.Prelude.{ℕ, ◌+◌, ◌*◌, ◌/◌, ◌%◌, ◌^◌, List, [], ◌∷◌, slice_index}
+use Rattle.std.specs.Prelude.{◌≡◌, ◌≤◌, ℕ, ◌+◌, ◌*◌, ◌/◌, ◌%◌, ◌^◌, List, [], ◌∷◌, length, slice_index, Result}
 use Rattle.std.specs.List.{flat_map}
 use Rattle.byteorder.specs.Endian.{little_bytes}
-use Rattle.vmclock_page.specs.Numbers.{number}
+use Rattle.vmclock_page.specs.Numbers.{number, AreBytes}
 use Rattle.vmclock_page.specs.ClockPage.{ClockPage}
-use Rattle.vmclock_page.specs.declared.layout.TheConstants.{MAGIC, VERSION}
+use Rattle.vmclock_page.specs.Page.{page_of}
+use Rattle.vmclock_page.specs.declared.layout.TheConstants.{MAGIC, VERSION, PAGE_BYTES}
+use Rattle.vmclock_page.specs.declared.fault.PageFault.{PageFault}
 
 -- the words that stand in the first 104 bytes
 abbrev pub words_of : List ℕ → List ℕ
 words_of bytes =
-    number 8 0 bytes ∷ number 8 8 bytes ∷ number 8 16 bytes ∷ number 8 24 bytes ∷ number 8 32 bytes ∷ number 8 40 bytes
-    ∷ number 8 48 bytes ∷ number 8 56 bytes ∷ number 8 64 bytes ∷ number 8 72 bytes ∷ number 8 80 bytes ∷ number 8 88 bytes
-    ∷ number 8 96 bytes ∷ []
+    number 8 0 bytes ∷ number 8 8 bytes ∷ number 8 16 bytes ∷ number 8 24 bytes ∷ number 8 32 bytes
+    ∷ number 8 40 bytes ∷ number 8 48 bytes ∷ number 8 56 bytes ∷ number 8 64 bytes ∷ number 8 72 bytes
+    ∷ number 8 80 bytes ∷ number 8 88 bytes ∷ number 8 96 bytes ∷ []
 
 -- the bytes of words, one word after the other
 abbrev pub bytes_of_words : List ℕ → List ℕ
@@ -53,6 +55,11 @@ page_words pads p =
     ∷ p.time_maxerror_nanosec
     ∷ []
 
--- the number in the pad bytes of words
+-- the number in the two pad bytes
 abbrev pub pads_of : List ℕ → ℕ
 pads_of words = slice_index words 4 % 2 ^ 16
+
+-- words that stand in the bytes of a page are read as the bytes are
+abbrev pub ReadAsBytes : List ℕ → Result ClockPage PageFault → Type 0
+ReadAsBytes words result =
+    (bytes : List ℕ) → AreBytes bytes → PAGE_BYTES ≤ length bytes → words ≡ words_of bytes → result ≡ page_of bytes

@@ -21,3 +21,6 @@ pub use page::Page;
 pub use reading::read_page;
 pub use words::{from_words, to_words};
 pub use writing::write_page;
+
+#[cfg(test)]
+mod tests;

@@ -3,7 +3,7 @@ ghost use Rattle.std.specs.Prelude.{◌≡◌, ◌≢◌, ◌≤◌, ◌%◌, �
 ghost use Rattle.vmclock_page.specs.ClockPage.{ClockPage};
 ghost use Rattle.vmclock_page.specs.Numbers.{AreBytes};
 ghost use Rattle.vmclock_page.specs.Page.{IsClockPage, tests, first_fault, page_of, page_text};
-ghost use Rattle.vmclock_page.specs.Words.{words_of, bytes_of_words, page_words, pads_of, count_in_word};
+ghost use Rattle.vmclock_page.specs.Words.{words_of, bytes_of_words, page_words, pads_of, count_in_word, ReadAsBytes};
 
 use crate::fault::PageFault;
 use crate::layout::PAGE_BYTES;
@@ -51,10 +51,7 @@ pub fn from_words(words: &[u64; 13]) -> Result<Page, PageFault>
     ensures even { OnOk result (count_in_word (slice_index words.now 1) % 2 ≡ 0) }
 
     // The words of a page's bytes are read as the bytes are.
-    ensures same {
-        (bytes : List ℕ) → AreBytes bytes → PAGE_BYTES ≤ length bytes → words.now ≡ words_of bytes →
-        result ≡ page_of bytes
-    }
+    ensures same { ReadAsBytes words.now result }
 {
     let mut bytes = [0; 104];
     LittleEndian::write_u64_into(words, &mut bytes);

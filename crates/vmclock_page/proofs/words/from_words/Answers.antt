@@ -1,10 +1,8 @@
-use Rattle.std.proofs.Common.{◌≡◌, ◌∙◌, ap}
-use Rattle.std.specs.Prelude.{IfOk}
-use Rattle.vmclock_page.specs.Page.{IsClockPage, page_of}
+use Rattle.std.proofs.Common.{◌∙◌, ap}
+use Rattle.vmclock_page.specs.Page.{page_of}
 use Rattle.vmclock_page.specs.Words.{bytes_of_words}
 use Rattle.vmclock_page.proofs.Agree.{page_of-words, each_byte}
 use Rattle.vmclock_page.proofs.Found.{words_found, count_found, even_found}
-use Rattle.vmclock_page.proofs.WordLemmas.{AreWords}
 use Rattle.vmclock_page.proofs.words.from_words.Goals as goal
 
 pub returns-clause-words : goal.returns-clause-words

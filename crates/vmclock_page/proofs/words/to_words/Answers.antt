@@ -1,4 +1,4 @@
-use Rattle.std.proofs.Common.{◌≡◌, ◌∙◌, sym, ap, arith}
+use Rattle.std.proofs.Common.{◌∙◌, sym, ap, arith}
 use Rattle.vmclock_page.specs.Words.{page_words}
 use Rattle.vmclock_page.proofs.WordLemmas.{words_of-fields}
 use Rattle.vmclock_page.proofs.words.to_words.Goals as goal

@@ -1,4 +1,4 @@
-use Rattle.std.proofs.Common.{◌≡◌, ◌∙◌, List, ℕ, length, ap, arith}
+use Rattle.std.proofs.Common.{◌∙◌, List, ℕ, ap, arith}
 use Rattle.vmclock_page.specs.Page.{page_of}
 use Rattle.vmclock_page.specs.Words.{bytes_of_words}
 use Rattle.vmclock_page.proofs.Agree.{page_of-words}
