@@ -1,6 +1,6 @@
 -- The words of bytes read as the bytes do.
 use Rattle.std.proofs.Common.{◌≡◌, ◌≤◌, ◌<◌, ◌+◌, ◌*◌, ◌/◌, ◌%◌, ◌^◌, ◌∙◌, ℕ, zero, suc, List, [], ◌∷◌, ◌++◌, length, take, drop, slice_index, true, refl, sym, ap, arith, drop-drop, inl, inr}
-use Rattle.std.specs.Prelude.{nat_le}
+use Rattle.std.specs.Prelude.{nat_le, Option, Some, None, Ok}
 use Rattle.std.specs.Int.{byte_at, bytes_low_first}
 use Rattle.std.proofs.lemmas.List.{length-take-le, get_or_past}
 use Rattle.std.proofs.lemmas.List.Elements.{All-get_or}
@@ -11,7 +11,6 @@ use Rattle.std.proofs.Math.Seq.{drop-cons, take-add}
 use Rattle.byteorder.specs.Endian.{little_from, little_bytes}
 use Rattle.byteorder.specs.Numbers.{little_from-take}
 use Rattle.vmclock_page.specs.Numbers.{number, AreBytes}
-use Rattle.std.specs.Prelude.{Option, Some, None, Ok}
 use Rattle.vmclock_page.specs.Page.{page_at, page_unless, page_of}
 use Rattle.vmclock_page.specs.declared.fault.PageFault.{PageFault}
 use Rattle.vmclock_page.specs.Words.{words_of, bytes_of_words}

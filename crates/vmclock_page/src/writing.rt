@@ -4,7 +4,7 @@ ghost use Rattle.vmclock_page.specs.Numbers.{number, spelled};
 ghost use Rattle.vmclock_page.specs.Bounds.{HeaderFits, StatusFits, CounterFits, TimeFits, KeepsBounds};
 ghost use Rattle.vmclock_page.specs.Page.{IsClockPage, page_of, header_text, status_text, counter_text, time_text, page_text};
 
-use crate::layout::{MAGIC, PAGE_BYTES, VERSION};
+use crate::layout::{MAGIC, VERSION};
 use crate::page::Page;
 use byteorder::{ByteOrder, LittleEndian};
 
