@@ -1,3 +1,4 @@
+pub mod Errors
 pub mod Fields
 pub mod Plain
 pub mod Records

@@ -2,7 +2,7 @@
 use std::fmt;
 
 /// Why a record of a text is refused. Shown by its name in lower case.
-#[derive(Clone, Copy, Debug, PartialEq, Eq)]
+#[derive(Clone, Copy, Debug, PartialEq, Eq, Hash)]
 pub enum Reason {
     /// Its first field is no kind of record, or it sets something that can't be set.
     Kind,
