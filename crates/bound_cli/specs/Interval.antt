@@ -1,0 +1,55 @@
+-- What a client makes of a record and a reading of the clock: elapsed time, growth, interval and status.
+use Rattle.std.specs.Prelude.{ℕ, ◌+◌, ◌*◌, ◌≤◌, ℤ, pos, ◌+ℤ◌, ◌-ℤ◌, unsigned_abs, Bool, true, false, not, ◌||◌, ◌==◌, Option, Some, None, Result, Ok, Err, int_lt, if◌then◌else◌}
+use Rattle.std.specs.Int.{div_ceil, int_max}
+use Rattle.clock_gate.specs.declared.clock_status.ClockStatus.{ClockStatus}
+use Rattle.clock_gate.specs.declared.clock_status.ClockStatus.TheVariants.{Unknown, Synchronized, FreeRunning, Disrupted}
+use Rattle.bound_cli.specs.Record.{RecordFields}
+use Rattle.bound_cli.specs.declared.answers.Interval.{Interval}
+use Rattle.bound_cli.specs.declared.answers.Causality.{Causality}
+
+-- the nanoseconds since as-of, or 0 before it
+abbrev pub elapsed_of : ℤ → ℕ → ℕ
+elapsed_of as_of mono = unsigned_abs (int_max (pos mono -ℤ as_of) (pos 0))
+
+-- how far a clock drifts in so many nanoseconds at so many parts in 10^9, rounded up
+abbrev pub growth_of : ℕ → ℕ → ℕ
+growth_of elapsed drift = div_ceil (elapsed * drift) 1000000000
+
+-- g is the least whole number of nanoseconds that covers this drift
+pub record IsGrowth (elapsed drift g : ℕ) : Type 0 where
+  pub covers : elapsed * drift ≤ g * 1000000000
+  pub least : (h : ℕ) → elapsed * drift ≤ h * 1000000000 → g ≤ h
+
+-- half the width of the interval: the record's bound, and its growth since as-of
+abbrev pub half_width_of : RecordFields → ℕ → ℤ
+half_width_of rec mono = rec.bound +ℤ pos (growth_of (elapsed_of rec.as_of mono) rec.drift)
+
+abbrev pub is_disrupted : ClockStatus → Bool
+is_disrupted Disrupted = true
+is_disrupted Unknown = false
+is_disrupted Synchronized = false
+is_disrupted FreeRunning = false
+
+-- a disruption mark isn't absorbed: the record is Disrupted, or there is a page whose marker isn't the record's
+abbrev pub is_unabsorbed : RecordFields → Option ℕ → Bool
+is_unabsorbed rec None = is_disrupted rec.status
+is_unabsorbed rec (Some marker) = is_disrupted rec.status || (not rec.support || not (rec.marker == marker))
+
+-- the status of a record whose mark is absorbed, by whether it is void and whether it is younger than 5 s
+abbrev pub status_by_age : ClockStatus → Bool → Bool → ClockStatus
+status_by_age Unknown is_void is_young = Unknown
+status_by_age Synchronized is_void is_young = if is_void then Unknown else if is_young then Synchronized else FreeRunning
+status_by_age FreeRunning is_void is_young = if is_void then Unknown else FreeRunning
+status_by_age Disrupted is_void is_young = if is_void then Unknown else FreeRunning
+
+-- Disrupted before all else; from void-after on Unknown; Synchronized for 5 s from as-of on, and then FreeRunning
+abbrev pub client_status : RecordFields → ℕ → Option ℕ → ClockStatus
+client_status rec mono marker =
+    if is_unabsorbed rec marker then Disrupted
+    else status_by_age rec.status (not (int_lt (pos mono) rec.void_after)) (int_lt (pos mono) (rec.as_of +ℤ pos 5000000000))
+
+-- the interval round the real time of a reading, unless the reading lies more than 1,000 ns before as-of
+unfoldable pub interval_of : RecordFields → ℕ → ℕ → Option ℕ → Result Interval Causality
+interval_of rec mono real marker =
+    if int_lt (pos (mono + 1000)) rec.as_of then Err (record { as_of = rec.as_of; mono = mono })
+    else Ok (record { earliest = pos real -ℤ half_width_of rec mono; latest = pos real +ℤ half_width_of rec mono; status = client_status rec mono marker })

@@ -1,0 +1,9 @@
+pub mod GoodPoll
+pub mod Interval
+pub mod OnePoll
+pub mod Record
+pub mod Replay
+pub mod Report
+pub mod Serve
+pub mod Stream
+pub mod Trace

@@ -1,0 +1,32 @@
+//! What a client call answers.
+
+use clock_gate::{ClockStatus, Stamp};
+
+/// True time lies from `earliest` to `latest`, in nanoseconds since 1970-01-01T00:00:00Z, as far as the status
+/// says. With `Unknown` or `Disrupted` it claims nothing.
+#[derive(Clone, Copy, Debug, PartialEq, Eq)]
+pub struct Interval {
+    pub earliest: i128,
+    pub latest: i128,
+    pub status: ClockStatus,
+}
+
+/// The reading lies before the record: its monotonic time and 1,000 ns are below as-of.
+#[derive(Clone, Copy, Debug, PartialEq, Eq)]
+pub struct Causality {
+    pub as_of: Stamp,
+    /// In nanoseconds.
+    pub mono: u64,
+}
+
+/// The answer of a client call that got an interval.
+#[derive(Clone, Copy, Debug, PartialEq, Eq)]
+pub struct Timed {
+    /// The generation of the record that it read.
+    pub generation: u32,
+    /// The clock row that it read.
+    pub row: u32,
+    /// The page's sequence count that it saw, or 0 without a page.
+    pub sequence: u32,
+    pub interval: Interval,
+}
