@@ -1,41 +1,34 @@
--- What the top call answers and writes, by the words of its command line and the bytes of its source.
-use Rattle.std.specs.Prelude.{◌≡◌, ℕ, ◌<◌, ◌≤◌, List, [], ◌∷◌, ◌++◌, length, take, codes, Option, Some, None, Err, IsOk, IfOk, ⊤, if◌then◌else◌}
-use Rattle.std.specs.Str.{bytes_eq}
+-- What the top call answers and writes, by its command and the bytes of its source.
+use Rattle.std.specs.Prelude.{◌≡◌, ℕ, ◌<◌, ◌≤◌, List, ◌++◌, length, take, Option, Some, Err, IsOk, IfOk, ⊤}
 use Rattle.clock_gate.specs.declared.limits.TheConstants.{INPUT_LIMIT}
-use Rattle.trace_reader.specs.declared.trace_error.TraceFault.{TraceFault}
+use Rattle.bound_cli.specs.declared.command.Command.{Command}
 use Rattle.bound_cli.specs.declared.status.Status.{Status}
 use Rattle.bound_cli.specs.declared.status.Status.TheVariants as status
-use Rattle.bound_cli.specs.Replay.{replay_report}
+use Rattle.bound_cli.specs.Output.{output_of}
 
--- the number of the first word that isn't allowed; a missing word is the one after the last
-abbrev pub first_refused_word : List (List ℕ) → Option ℕ
-first_refused_word [] = Some 1
-first_refused_word (command ∷ []) = if bytes_eq command (codes "replay") then None else Some 1
-first_refused_word (command ∷ second ∷ others) = if bytes_eq command (codes "replay") then Some 2 else Some 1
-
--- the bytes are within the limit, and say a trace
-abbrev pub IsAccepted : List ℕ → Type 0
-IsAccepted bytes = (length bytes ≤ INPUT_LIMIT) × IsOk (replay_report bytes)
+-- the bytes are within the limit, and the command has an output for them
+abbrev pub IsAccepted : Command → List ℕ → Type 0
+IsAccepted command bytes = (length bytes ≤ INPUT_LIMIT) × IsOk (output_of command bytes)
 
 -- which answers the bytes of a source allow. Read rests on the source's count of faults, Memory on nothing.
-abbrev pub Allows : List ℕ → Status → Type 0
-Allows bytes status.Ok = IsAccepted bytes
-Allows bytes (status.Usage n) = ⊥
-Allows bytes (status.Trace line reason) = (length bytes ≤ INPUT_LIMIT) × (replay_report bytes ≡ Err (record { line = line; reason = reason }))
-Allows bytes status.Read = ⊤
-Allows bytes status.Write = IsAccepted bytes
-Allows bytes status.TooLong = INPUT_LIMIT < length bytes
-Allows bytes status.Memory = ⊤
+abbrev pub Allows : Command → List ℕ → Status → Type 0
+Allows command bytes status.Ok = IsAccepted command bytes
+Allows command bytes (status.Usage n) = ⊥
+Allows command bytes (status.Trace line reason) = (length bytes ≤ INPUT_LIMIT) × (output_of command bytes ≡ Err (record { line = line; reason = reason }))
+Allows command bytes status.Read = ⊤
+Allows command bytes status.Write = IsAccepted command bytes
+Allows command bytes status.TooLong = INPUT_LIMIT < length bytes
+Allows command bytes status.Memory = ⊤
 
--- what a sink holds after an answer: the whole report after Ok, a front of it after Write, and else nothing new
-abbrev pub Written : List ℕ → List ℕ → Option (List ℕ) → Status → Type 0
-Written bytes before held status.Ok = IfOk (replay_report bytes) (λ report. held ≡ Some (before ++ report))
-Written bytes before held (status.Usage n) = held ≡ Some before
-Written bytes before held (status.Trace line reason) = held ≡ Some before
-Written bytes before held status.Read = held ≡ Some before
-Written bytes before held status.Write = IfOk (replay_report bytes) (λ report. (n : ℕ) × (held ≡ Some (before ++ take n report)))
-Written bytes before held status.TooLong = held ≡ Some before
-Written bytes before held status.Memory = held ≡ Some before
+-- what a sink holds after an answer: the whole output after Ok, a front of it after Write, and else nothing new
+abbrev pub Written : Command → List ℕ → List ℕ → Option (List ℕ) → Status → Type 0
+Written command bytes before held status.Ok = IfOk (output_of command bytes) (λ output. held ≡ Some (before ++ output))
+Written command bytes before held (status.Usage n) = held ≡ Some before
+Written command bytes before held (status.Trace line reason) = held ≡ Some before
+Written command bytes before held status.Read = held ≡ Some before
+Written command bytes before held status.Write = IfOk (output_of command bytes) (λ output. (n : ℕ) × (held ≡ Some (before ++ take n output)))
+Written command bytes before held status.TooLong = held ≡ Some before
+Written command bytes before held status.Memory = held ≡ Some before
 
 -- an answer after which nothing was written
 abbrev pub IsSilent : Status → Type 0

@@ -1,16 +1,20 @@
 //! The commands of clockbound, over any source and any sink.
 //!
-//! `serve` reads a trace, replays it and writes its report: the bytes written are the report of the bytes read, and
-//! each refusal has its cause (`specs/Serve.antt`). As yet a trace has one poll and one call. Below it stand, as public
-//! modules until their crates come, `segment_layout` (a published record), `bound_rule` (when a poll is good),
-//! `interval_now` (what a client makes of a record) and `answers` (its answer). Stands on clock_gate, chrony_fraction, candm_codec, trace_reader
-//! and the kit's csv.
+//! `serve` finds the command that the words name, reads the source to its end, and writes what the command makes of it:
+//! for `replay` the report of a trace, for `decode` what a message tells. The bytes written are that output of the bytes
+//! read, and each refusal has its cause (`specs/Serve.antt`, `specs/Output.antt`). As yet a trace has one poll and one
+//! call.
+//!
+//! Below it stand, as public modules until their crates come, `segment_layout` (a published record), `bound_rule` (when a
+//! poll is good), `interval_now` (what a client makes of a record) and `answers` (its answer).
 #![tactic(auto)]
 
 pub mod answers;
 pub mod bound_rule;
+mod command;
 pub mod interval_now;
 mod one_poll;
+mod output;
 mod replay;
 mod report;
 pub mod segment_layout;
@@ -18,6 +22,7 @@ mod status;
 mod stream;
 mod top;
 mod trace;
+mod words;
 
 pub use status::Status;
 pub use top::serve;

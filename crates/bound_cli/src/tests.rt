@@ -11,6 +11,12 @@ clock,3500000000,1700000002500000000
 call,1
 ";
 
+// A start page with sequence count 2 and marker 7.
+const PAGE: &str = "56434c4b68000000 0100010002000000 0700000000000000
+0000000000000000 0000000000000000 0000000000000000 0000000000000000 0000000000000000
+0000000000000000 0000000000000000 0000000000000000 0000000000000000 0000000000000000
+";
+
 const REPORT: &str = "clockbound-report,1
 open,1,fresh,0
 pub,1,1,2,1,0,1,synchronized,1000000000,244142,0,1
@@ -82,6 +88,13 @@ fn kind(line: u32) -> Status {
     Status::Trace {
         line,
         reason: Reason::Kind,
+    }
+}
+
+fn no_hex() -> Status {
+    Status::Trace {
+        line: 1,
+        reason: Reason::Hex,
     }
 }
 
@@ -217,6 +230,34 @@ fn the_input_ends_at_its_limit(rt: HostRuntime) -> Result<(), Fail> {
 }
 
 #[test]
+fn a_message_is_decoded(rt: HostRuntime) -> Result<(), Fail> {
+    let alloc = rt.alloc();
+    for (what, digits, status, text) in [
+        ("page", PAGE, Status::Ok, "page,104,1,0,2,7\n"),
+        ("page", " 56 43\t4b\n", Status::Ok, "refused,short\n"),
+        ("reply", "", Status::Ok, "refused,short\n"),
+        ("reply", "060", no_hex(), ""),
+        ("page", "0g", no_hex(), ""),
+    ] {
+        let digits = List::from_vec(digits.as_bytes().to_vec(alloc)?);
+        let none = List::from_vec(Vec::new(alloc));
+        let mut source = MemSource::new(digits, 7, none);
+        let Ok(mut sink) = MemSink::new(alloc, 100, 7, List::from_vec(Vec::new(alloc))) else {
+            return Err(Fail::from("there is memory"));
+        };
+        let found = serve(
+            alloc,
+            &words(alloc, &["decode", what])?,
+            &mut source,
+            &mut sink,
+        );
+        assert_eq!(rt; found, status, "decode {what}");
+        assert_eq!(rt; sink.bytes(), text.as_bytes(), "decode {what}");
+    }
+    Ok(())
+}
+
+#[test]
 fn the_first_refused_word_is_named(rt: HostRuntime) -> Result<(), Fail> {
     let alloc = rt.alloc();
     for (given, number) in [
@@ -226,6 +267,9 @@ fn the_first_refused_word_is_named(rt: HostRuntime) -> Result<(), Fail> {
         (["--help"].as_slice(), 1),
         (["Replay"].as_slice(), 1),
         (["replay", "replay", "replay"].as_slice(), 2),
+        (["decode"].as_slice(), 2),
+        (["decode", "image"].as_slice(), 2),
+        (["decode", "reply", "page"].as_slice(), 3),
     ] {
         let none = List::from_vec(Vec::new(alloc));
         let mut source = MemSource::new(List::from_vec(Vec::new(alloc)), 1, none);

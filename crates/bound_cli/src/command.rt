@@ -1,0 +1,10 @@
+use decode_text::What;
+
+/// What a command line asks for.
+#[derive(Clone, Copy, Debug, PartialEq, Eq)]
+pub enum Command {
+    /// `replay`: the report of a trace.
+    Replay,
+    /// `decode reply`, `decode page`: what hexadecimal text tells of a message.
+    Decode(What),
+}

@@ -1,0 +1,4 @@
+pub mod Digits
+pub mod ReplyLines
+pub mod PageLines
+pub mod DecodeText

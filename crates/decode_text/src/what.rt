@@ -1,0 +1,8 @@
+/// What a hexadecimal text is taken for.
+#[derive(Clone, Copy, Debug, PartialEq, Eq, Hash)]
+pub enum What {
+    /// chrony's reply to a request for tracking.
+    Reply,
+    /// A VMClock page.
+    Page,
+}
