@@ -1,3 +1,4 @@
+pub mod Laws
 pub mod Back
 pub mod WordLemmas
 pub mod Agree

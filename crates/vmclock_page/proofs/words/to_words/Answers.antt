@@ -1,5 +1,6 @@
-use Rattle.std.proofs.Common.{◌∙◌, sym, ap, arith}
-use Rattle.vmclock_page.specs.Words.{page_words}
+use Rattle.std.proofs.Common.{◌∙◌, sym, ap}
+use Rattle.vmclock_page.specs.Words.{page_words, constant_half}
+use Rattle.vmclock_page.proofs.Laws.{constant_half-fits, count_in_word-word_with_count}
 use Rattle.vmclock_page.proofs.WordLemmas.{words_of-fields}
 use Rattle.vmclock_page.proofs.words.to_words.Goals as goal
 
@@ -11,6 +12,5 @@ returns-clause-words c =
 
 pub returns-clause-count : goal.returns-clause-count
 returns-clause-count c =
-    let counter = c.write_page.ensures.kept.header.counter_id in
-    let time = c.write_page.ensures.kept.header.time_type in
-    rw (returns-clause-words c) (omega arith)
+    let small = constant_half-fits c.args.page.now c.write_page.ensures.kept.header in
+    rw (returns-clause-words c) (count_in_word-word_with_count (constant_half c.args.page.now) c.args.page.now.seq_count small)
