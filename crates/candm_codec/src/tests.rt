@@ -112,3 +112,53 @@ fn a_request_with_one_byte_changed(rt: HostRuntime) {
         assert_eq!(rt; read_request(&bytes), Err(fault), "byte {place} as {byte}");
     }
 }
+
+#[test]
+fn the_front_of_a_message_is_short(rt: HostRuntime) {
+    let request = write_request(5, 1);
+    for length in 0..104 {
+        let (reply, _) = REPLY.split_at(length);
+        let (request, _) = request.split_at(length);
+        assert_eq!(rt; read_reply(reply), Err(ReplyFault::Short), "{length} bytes");
+        assert_eq!(rt;
+            read_request(request),
+            Err(RequestFault::Short),
+            "{length} bytes"
+        );
+    }
+}
+
+#[test]
+fn a_reply_with_one_byte_set_to_255(rt: HostRuntime) {
+    let faults = [
+        (0, ReplyFault::Version),
+        (1, ReplyFault::PacketType),
+        (4, ReplyFault::Command),
+        (5, ReplyFault::Command),
+        (6, ReplyFault::NotTracking),
+        (7, ReplyFault::NotTracking),
+        (8, ReplyFault::Status(65_280)),
+        (9, ReplyFault::Status(255)),
+        (54, ReplyFault::Leap(65_280)),
+        (55, ReplyFault::Leap(255)),
+    ];
+    for place in 0..104 {
+        let mut bytes = REPLY;
+        bytes[place] = 255;
+        let want = faults
+            .iter()
+            .find(|(at, _)| *at == place)
+            .map(|(_, fault)| *fault);
+        assert_eq!(rt; read_reply(&bytes).err(), want, "byte {place}");
+    }
+}
+
+#[test]
+fn an_uncounted_request_is_the_one_of_chronyc(rt: HostRuntime) {
+    for sequence in [0, 1, 0x0102_0304, u32::MAX] {
+        let mut want = [0; 104];
+        want[..8].copy_from_slice(&[0x06, 0x01, 0x00, 0x00, 0x00, 0x21, 0x00, 0x00]);
+        want[8..12].copy_from_slice(&sequence.to_be_bytes());
+        assert_eq!(rt; write_request(sequence, 0), want, "sequence {sequence}");
+    }
+}

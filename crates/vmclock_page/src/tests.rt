@@ -140,3 +140,33 @@ fn pages_are_counted_from_the_start(rt: HostRuntime) {
         assert_eq!(rt; page_number(start, sequence), want);
     }
 }
+
+#[test]
+fn the_front_of_a_page_is_short(rt: HostRuntime) {
+    for length in 0..104 {
+        let (bytes, _) = START.split_at(length);
+        assert_eq!(rt; read_page(bytes), Err(PageFault::Short), "{length} bytes");
+    }
+}
+
+#[test]
+fn a_page_with_one_byte_set_to_255(rt: HostRuntime) {
+    let faults = [
+        (0, PageFault::Magic),
+        (1, PageFault::Magic),
+        (2, PageFault::Magic),
+        (3, PageFault::Magic),
+        (8, PageFault::Version(255)),
+        (9, PageFault::Version(65_281)),
+        (12, PageFault::Odd(255)),
+    ];
+    for place in 0..104 {
+        let mut bytes = START;
+        bytes[place] = 255;
+        let want = faults
+            .iter()
+            .find(|(at, _)| *at == place)
+            .map(|(_, fault)| *fault);
+        assert_eq!(rt; read_page(&bytes).err(), want, "byte {place}");
+    }
+}
