@@ -1,0 +1,25 @@
+-- Which texts tell bytes.
+use Rattle.std.proofs.Common.{◌≡◌, ℕ, List, Some, None, Result, Ok, Err, ap, sym, ◌∙◌}
+use Rattle.std.specs.Result.{result_ok}
+use Rattle.hex.specs.Hex.{decode_of}
+use Rattle.hex.specs.declared.error.FromHexError.{FromHexError}
+use Rattle.hex.proofs.HexLemmas.{decode_of-ok, decode_of-digits}
+use Rattle.decode_text.specs.Digits.{digits_of, IsHexadecimal, bytes_told}
+
+-- the result that has this value
+ok_of : (r : Result (List ℕ) FromHexError) (bytes : List ℕ) → result_ok r ≡ Some bytes → r ≡ Ok bytes
+ok_of (Ok told) bytes is = cc is
+ok_of (Err e) bytes is = cc is
+
+pub hexadecimal_if_told : (text bytes : List ℕ) → bytes_told text ≡ Some bytes → IsHexadecimal text
+unfolding bytes_told
+hexadecimal_if_told text bytes is =
+    let facts = decode_of-ok (digits_of text) bytes (ok_of (decode_of (digits_of text)) bytes is) in
+    record { digits = facts.1; paired = facts.0 }
+
+pub not_hexadecimal : (text : List ℕ) → bytes_told text ≡ None → IsHexadecimal text → ⊥
+unfolding bytes_told
+not_hexadecimal text is h =
+    let told = decode_of-digits (digits_of text) h.paired h.digits in
+    let found : result_ok (decode_of (digits_of text)) ≡ Some told.0 = ap result_ok told.1 in
+    cc (sym is ∙ found)
