@@ -1,0 +1,4 @@
+pub mod History
+pub mod Image
+pub mod Record
+pub mod Words
