@@ -1,9 +1,6 @@
 pub mod Command
-pub mod GoodPoll
-pub mod Interval
 pub mod OnePoll
 pub mod Output
-pub mod Record
 pub mod Replay
 pub mod Report
 pub mod Serve

@@ -5,7 +5,7 @@ use Rattle.clock_gate.specs.declared.limits.TheConstants.{LAST_MOMENT}
 use Rattle.trace_reader.specs.Records.{records_of}
 use Rattle.trace_reader.specs.declared.trace_error.TraceFault.{TraceFault}
 use Rattle.bound_cli.specs.declared.one_poll.OnePoll.{OnePoll}
-use Rattle.bound_cli.specs.GoodPoll.{IsGoodAt}
+use Rattle.bound_rule.specs.GoodPoll.{IsGoodAt}
 use Rattle.bound_cli.specs.Trace.{header_in, clock_in, poll_in, call_in, record_says, fault_at}
 
 -- what was found goes into the next step; a fault stays the answer

@@ -3,16 +3,16 @@ use Rattle.std.specs.Prelude.{ℕ, List, [], ◌++◌, ◌==◌, false, None, Re
 use Rattle.clock_gate.specs.declared.clock_status.ClockStatus.{ClockStatus}
 use Rattle.clock_gate.specs.declared.clock_status.ClockStatus.TheVariants.{Unknown, Synchronized, FreeRunning, Disrupted}
 use Rattle.trace_reader.specs.declared.trace_error.TraceFault.{TraceFault}
-use Rattle.bound_cli.specs.declared.bound_rule.Good.{Good}
-use Rattle.bound_cli.specs.declared.answers.Interval.{Interval}
-use Rattle.bound_cli.specs.declared.answers.Causality.{Causality}
-use Rattle.bound_cli.specs.declared.answers.Timed.{Timed}
+use Rattle.bound_rule.specs.declared.good.Good.{Good}
+use Rattle.interval_now.specs.declared.answers.Interval.{Interval}
+use Rattle.interval_now.specs.declared.answers.Causality.{Causality}
+use Rattle.interval_now.specs.declared.answers.Timed.{Timed}
 use Rattle.bound_cli.specs.declared.one_poll.OnePoll.{OnePoll}
 use Rattle.bound_cli.specs.declared.report.Totals.{Totals}
-use Rattle.bound_cli.specs.declared.segment_layout.Publication.{Publication}
-use Rattle.bound_cli.specs.Interval.{interval_of}
+use Rattle.segment_layout.specs.declared.publication.Publication.{Publication}
+use Rattle.interval_now.specs.Interval.{interval_of}
 use Rattle.bound_cli.specs.OnePoll.{◌>>=◌, trace_of}
-use Rattle.bound_cli.specs.Record.{RecordFields}
+use Rattle.segment_layout.specs.Record.{RecordFields}
 use Rattle.bound_cli.specs.Report.{header_line, fresh_line, published_line, time_line, total_line}
 
 -- the record of a good poll: Synchronized from this poll on, at the default drift of 50,000 ppb, without a page

@@ -1,19 +1,12 @@
 -- The lines of a report (this project's format), byte for byte. Each ends with a line feed.
 use Rattle.std.specs.Prelude.{ℕ, List, ◌++◌, codes, decimal}
 use Rattle.std.specs.Fmt.{signed_decimal}
-use Rattle.clock_gate.specs.declared.clock_status.ClockStatus.{ClockStatus}
-use Rattle.clock_gate.specs.declared.clock_status.ClockStatus.TheVariants.{Unknown, Synchronized, FreeRunning, Disrupted}
-use Rattle.bound_cli.specs.Record.{RecordFields}
-use Rattle.bound_cli.specs.declared.answers.Interval.{Interval}
-use Rattle.bound_cli.specs.declared.answers.Timed.{Timed}
-use Rattle.bound_cli.specs.declared.segment_layout.Publication.{Publication}
+use Rattle.clock_gate.specs.ClockStatus.{name_of}
+use Rattle.segment_layout.specs.Record.{RecordFields}
+use Rattle.interval_now.specs.declared.answers.Interval.{Interval}
+use Rattle.interval_now.specs.declared.answers.Timed.{Timed}
+use Rattle.segment_layout.specs.declared.publication.Publication.{Publication}
 use Rattle.bound_cli.specs.declared.report.Totals.{Totals}
-
-unfoldable pub status_text : ClockStatus → List ℕ
-status_text Unknown = codes "unknown"
-status_text Synchronized = codes "synchronized"
-status_text FreeRunning = codes "freerunning"
-status_text Disrupted = codes "disrupted"
 
 unfoldable pub header_line : List ℕ
 header_line = codes "clockbound-report,1\n"
@@ -32,7 +25,7 @@ published_rows page p = decimal p.asked ++ (codes "," ++ (decimal page ++ (codes
 
 -- status, as-of and bound
 unfoldable pub published_bound : RecordFields → List ℕ
-published_bound rec = status_text rec.status ++ (codes "," ++ (signed_decimal rec.as_of ++ (codes "," ++ (signed_decimal rec.bound ++ codes ","))))
+published_bound rec = name_of rec.status ++ (codes "," ++ (signed_decimal rec.as_of ++ (codes "," ++ (signed_decimal rec.bound ++ codes ","))))
 
 -- the marker, and the poll that gave as-of and bound
 unfoldable pub published_base : Publication → List ℕ
@@ -52,7 +45,7 @@ time_rows row page = decimal row ++ (codes "," ++ (decimal page ++ codes ","))
 
 -- status, earliest and latest
 unfoldable pub interval_text : Interval → List ℕ
-interval_text i = status_text i.status ++ (codes "," ++ (signed_decimal i.earliest ++ (codes "," ++ (signed_decimal i.latest ++ codes "\n"))))
+interval_text i = name_of i.status ++ (codes "," ++ (signed_decimal i.earliest ++ (codes "," ++ (signed_decimal i.latest ++ codes "\n"))))
 
 -- `ans,CLIENT,CALL,time,GENERATION,ROW,PAGE,STATUS,EARLIEST,LATEST`
 unfoldable pub time_line : ℕ → ℕ → ℕ → Timed → List ℕ

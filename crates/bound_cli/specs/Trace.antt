@@ -10,9 +10,9 @@ use Rattle.candm_codec.specs.Reply.{reply_of}
 use Rattle.trace_reader.specs.Fields.{number_in, bytes_in}
 use Rattle.trace_reader.specs.declared.reason.Reason.TheVariants.{Kind}
 use Rattle.trace_reader.specs.declared.trace_error.TraceFault.{TraceFault}
-use Rattle.bound_cli.specs.declared.bound_rule.Good.{Good}
+use Rattle.bound_rule.specs.declared.good.Good.{Good}
 use Rattle.bound_cli.specs.declared.one_poll.OnePoll.{OnePoll}
-use Rattle.bound_cli.specs.GoodPoll.{assess_of, IsGoodAt}
+use Rattle.bound_rule.specs.GoodPoll.{assess_of, IsGoodAt}
 
 -- what an option holds goes into the next step; none stays none
 infixl 10 ◌>>=◌

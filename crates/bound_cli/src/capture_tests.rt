@@ -1,6 +1,6 @@
 //! Replies of a real chronyd (chrony 4.3, over UDP), and what its own chronyc printed of the same bytes.
 
-use crate::bound_rule::{Unfit, assess};
+use bound_rule::{Unfit, assess};
 use candm_codec::{Leap, ReplyFault, read_reply};
 use chrony_fraction::{Packed, ceil_bound};
 use clock_gate::Reading;

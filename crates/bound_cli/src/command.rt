@@ -5,6 +5,6 @@ use decode_text::What;
 pub enum Command {
     /// `replay`: the report of a trace.
     Replay,
-    /// `decode reply`, `decode page`: what hexadecimal text tells of a message.
+    /// `decode reply`, `decode page`, `decode image`: what hexadecimal text tells.
     Decode(What),
 }

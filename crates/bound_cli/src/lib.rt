@@ -4,20 +4,13 @@
 //! for `replay` the report of a trace, for `decode` what a message tells. The bytes written are that output of the bytes
 //! read, and each refusal has its cause (`specs/Serve.antt`, `specs/Output.antt`). As yet a trace has one poll and one
 //! call.
-//!
-//! Below it stand, as public modules until their crates come, `segment_layout` (a published record), `bound_rule` (when a
-//! poll is good), `interval_now` (what a client makes of a record) and `answers` (its answer).
 #![tactic(auto)]
 
-pub mod answers;
-pub mod bound_rule;
 mod command;
-pub mod interval_now;
 mod one_poll;
 mod output;
 mod replay;
 mod report;
-pub mod segment_layout;
 mod status;
 mod stream;
 mod top;

@@ -1,4 +1,4 @@
-use crate::bound_rule::Good;
+use bound_rule::Good;
 use clock_gate::Reading;
 
 /// A trace of one poll and one call, as far as it is replayed.

@@ -5,14 +5,13 @@ ghost use Rattle.trace_reader.specs.Errors.{Gives};
 ghost use Rattle.bound_cli.specs.OnePoll.{IsLawful};
 ghost use Rattle.bound_cli.specs.Replay.{record_of, publication_of, answer_of, timed_of, totals_of, report_text, replay_report};
 
-use crate::answers::{Interval, Timed};
-use crate::interval_now::interval;
 use crate::one_poll::OnePoll;
 use crate::report;
 use crate::report::Totals;
-use crate::segment_layout::{Publication, Record};
 use crate::trace::read_trace;
 use clock_gate::ClockStatus;
+use interval_now::{Interval, Timed, interval};
+use segment_layout::{Publication, Record};
 use std::alloc::{AllocError, Global};
 use trace_reader::TraceError;
 

@@ -1,11 +1,10 @@
 //! The lines of a report, each appended to a text.
 ghost use Rattle.std.specs.Prelude.{◌≡◌, ◌++◌, OnOk};
 ghost use Rattle.std.specs.String.{string_bytes};
-ghost use Rattle.bound_cli.specs.Report.{status_text, header_line, fresh_line, published_place, published_rows, published_bound, published_base, published_line, time_place, time_rows, interval_text, time_line, total_counts, total_statuses, total_line};
+ghost use Rattle.bound_cli.specs.Report.{header_line, fresh_line, published_place, published_rows, published_bound, published_base, published_line, time_place, time_rows, interval_text, time_line, total_counts, total_statuses, total_line};
 
-use crate::answers::{Interval, Timed};
-use crate::segment_layout::{Publication, Record};
-use clock_gate::ClockStatus;
+use interval_now::{Interval, Timed};
+use segment_layout::{Publication, Record};
 use std::alloc::AllocError;
 
 /// What a report counts: publications, answers, answers with an interval, and these by their status.
@@ -18,18 +17,6 @@ pub struct Totals {
     pub synchronized: u32,
     pub free_running: u32,
     pub disrupted: u32,
-}
-
-#[tactic(auto, unfolding(crate::specs::Report::status_text))]
-fn status_name(status: ClockStatus) -> &'static str
-    ensures { result.now ≡ status_text status }
-{
-    match status {
-        ClockStatus::Unknown => "unknown",
-        ClockStatus::Synchronized => "synchronized",
-        ClockStatus::FreeRunning => "freerunning",
-        ClockStatus::Disrupted => "disrupted",
-    }
 }
 
 #[tactic(auto, unfolding(crate::specs::Report::header_line))]
@@ -66,7 +53,7 @@ fn put_rows(text: &mut String, page: u32, p: &Publication) -> Result<(), AllocEr
 fn put_bound(text: &mut String, rec: &Record) -> Result<(), AllocError>
     ensures { OnOk result (string_bytes text.new ≡ string_bytes text.old ++ published_bound rec.now) }
 {
-    let status = status_name(rec.status());
+    let status = rec.status();
     let (as_of, bound) = (rec.as_of().nanos(), rec.bound());
     write!(text, "{status},{as_of},{bound},")
 }
@@ -112,7 +99,7 @@ fn put_row(text: &mut String, row: u32, page: u32) -> Result<(), AllocError>
 fn put_interval(text: &mut String, interval: Interval) -> Result<(), AllocError>
     ensures { OnOk result (string_bytes text.new ≡ string_bytes text.old ++ interval_text interval) }
 {
-    let status = status_name(interval.status);
+    let status = interval.status;
     let (earliest, latest) = (interval.earliest, interval.latest);
     write!(text, "{status},{earliest},{latest}\n")
 }

@@ -17,6 +17,11 @@ const PAGE: &str = "56434c4b68000000 0100010002000000 0700000000000000
 0000000000000000 0000000000000000 0000000000000000 0000000000000000 0000000000000000
 ";
 
+// A segment of layout 2 with generation 65,534.
+const IMAGE: &str = "4e5a4d4100024243500000000200feff\
+    01000000000000000000000000000000e9030000000000000000000000000000\
+    aeb9030000000000000000000000000050c30000010000000000000000000000";
+
 const REPORT: &str = "clockbound-report,1
 open,1,fresh,0
 pub,1,1,2,1,0,1,synchronized,1000000000,244142,0,1
@@ -236,7 +241,14 @@ fn a_message_is_decoded(rt: HostRuntime) -> Result<(), Fail> {
         ("page", PAGE, Status::Ok, "page,104,1,0,2,7\n"),
         ("page", " 56 43\t4b\n", Status::Ok, "refused,short\n"),
         ("reply", "", Status::Ok, "refused,short\n"),
+        (
+            "image",
+            IMAGE,
+            Status::Ok,
+            "image,kept,65534,1000000000,1001000000000,244142,0,50000,synchronized,0\n",
+        ),
         ("reply", "060", no_hex(), ""),
+        ("image", "", no_hex(), ""),
         ("page", "0g", no_hex(), ""),
     ] {
         let digits = List::from_vec(digits.as_bytes().to_vec(alloc)?);
@@ -268,7 +280,7 @@ fn the_first_refused_word_is_named(rt: HostRuntime) -> Result<(), Fail> {
         (["Replay"].as_slice(), 1),
         (["replay", "replay", "replay"].as_slice(), 2),
         (["decode"].as_slice(), 2),
-        (["decode", "image"].as_slice(), 2),
+        (["decode", "record"].as_slice(), 2),
         (["decode", "reply", "page"].as_slice(), 3),
     ] {
         let none = List::from_vec(Vec::new(alloc));

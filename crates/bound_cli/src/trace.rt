@@ -4,12 +4,12 @@ ghost use Rattle.csv.specs.Records.{fields_of, field_at};
 ghost use Rattle.clock_gate.specs.declared.limits.TheConstants.{LAST_MOMENT};
 ghost use Rattle.trace_reader.specs.Errors.{Gives};
 ghost use Rattle.trace_reader.specs.Records.{records_of};
-ghost use Rattle.bound_cli.specs.GoodPoll.{IsGoodAt};
+ghost use Rattle.bound_rule.specs.GoodPoll.{IsGoodAt};
 ghost use Rattle.bound_cli.specs.Trace.{begins_with, has_form, header_in, clock_in, poll_in, call_in, good_of, fault_at, record_says};
 ghost use Rattle.bound_cli.specs.OnePoll.{one_poll_of, trace_of, ends_before, IsReadingFrom, IsLawful};
 
-use crate::bound_rule::{Good, assess};
 use crate::one_poll::OnePoll;
+use bound_rule::{Good, assess};
 use candm_codec::read_reply;
 use clock_gate::{LAST_MOMENT, Reading};
 use csv::ByteRecord;

@@ -28,6 +28,9 @@ fn decode_named(words: &[String]) -> Result<Command, u32>
             if what.as_str() == "page" {
                 return alone(Command::Decode(What::Page), 3, others);
             }
+            if what.as_str() == "image" {
+                return alone(Command::Decode(What::Image), 3, others);
+            }
             Err(2)
         }
     }

@@ -1,5 +1,5 @@
--- The codes of the clock statuses (ClockBound's PROTOCOL).
-use Rattle.std.specs.Prelude.{ℤ, pos, negsuc, zero, suc, Option, Some, None}
+-- The codes of the clock statuses (ClockBound's PROTOCOL), and their names in reports (this project's).
+use Rattle.std.specs.Prelude.{ℕ, ℤ, pos, negsuc, zero, suc, List, codes, Option, Some, None}
 use Rattle.clock_gate.specs.declared.clock_status.ClockStatus.{ClockStatus}
 use Rattle.clock_gate.specs.declared.clock_status.ClockStatus.TheVariants.{Unknown, Synchronized, FreeRunning, Disrupted}
 
@@ -18,3 +18,10 @@ status_of_code (pos (suc (suc zero))) = Some FreeRunning
 status_of_code (pos (suc (suc (suc zero)))) = Some Disrupted
 status_of_code (pos (suc (suc (suc (suc n))))) = None
 status_of_code (negsuc n) = None
+
+-- the name of a status
+unfoldable pub name_of : ClockStatus → List ℕ
+name_of Unknown = codes "unknown"
+name_of Synchronized = codes "synchronized"
+name_of FreeRunning = codes "freerunning"
+name_of Disrupted = codes "disrupted"

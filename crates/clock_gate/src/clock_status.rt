@@ -1,6 +1,8 @@
 ghost use Rattle.std.specs.Prelude.{◌≡◌};
 ghost use Rattle.clock_gate.specs.ClockStatus.{code_of, status_of_code};
 
+use std::fmt;
+
 /// How far a time can be trusted. Source: ClockBound's README and PROTOCOL; the codes are those of its segment.
 #[derive(Clone, Copy, Debug, PartialEq, Eq, Hash)]
 pub enum ClockStatus {
@@ -38,5 +40,22 @@ impl ClockStatus {
             3 => Some(ClockStatus::Disrupted),
             _ => None,
         }
+    }
+}
+
+impl fmt::Display for ClockStatus {
+    ghost use Rattle.std.specs.Prelude.{Some};
+    ghost use Rattle.clock_gate.specs.ClockStatus.{name_of};
+
+    ghost output = { λ status. Some (name_of status) };
+
+    #[tactic(auto, unfolding(crate::specs::ClockStatus::name_of))]
+    fn fmt<W: fmt::Write>(&self, f: &mut fmt::Formatter<W>) -> fmt::Result {
+        f.write_str(match self {
+            ClockStatus::Unknown => "unknown",
+            ClockStatus::Synchronized => "synchronized",
+            ClockStatus::FreeRunning => "freerunning",
+            ClockStatus::Disrupted => "disrupted",
+        })
     }
 }

@@ -1,9 +1,9 @@
 -- Which texts tell bytes.
-use Rattle.std.proofs.Common.{◌≡◌, ℕ, List, Some, None, Result, Ok, Err, ap, sym, ◌∙◌}
+use Rattle.std.proofs.Common.{◌≡◌, ◌*◌, ℕ, List, length, Some, None, Result, Ok, Err, ap, sym, ◌∙◌}
 use Rattle.std.specs.Result.{result_ok}
 use Rattle.hex.specs.Hex.{decode_of}
 use Rattle.hex.specs.declared.error.FromHexError.{FromHexError}
-use Rattle.hex.proofs.HexLemmas.{decode_of-ok, decode_of-digits}
+use Rattle.hex.proofs.HexLemmas.{decode_of-ok, decode_of-digits, decode_of-even, decode_pairs-ok}
 use Rattle.decode_text.specs.Digits.{digits_of, IsHexadecimal, bytes_told}
 
 -- the result that has this value
@@ -23,3 +23,11 @@ not_hexadecimal text is h =
     let told = decode_of-digits (digits_of text) h.paired h.digits in
     let found : result_ok (decode_of (digits_of text)) ≡ Some told.0 = ap result_ok told.1 in
     cc (sym is ∙ found)
+
+-- two digits stand for each byte
+pub pairs_if_told : (text bytes : List ℕ) → bytes_told text ≡ Some bytes → length (digits_of text) ≡ 2 * length bytes
+unfolding bytes_told
+pairs_if_told text bytes is =
+    let told : decode_of (digits_of text) ≡ Ok bytes = ok_of (decode_of (digits_of text)) bytes is in
+    let even = (decode_of-ok (digits_of text) bytes told).0 in
+    (decode_pairs-ok 0 (digits_of text) bytes (sym (decode_of-even (digits_of text) even) ∙ told)).1

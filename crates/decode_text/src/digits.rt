@@ -1,5 +1,5 @@
 //! The bytes that hexadecimal digits tell, with blanks between the digits.
-ghost use Rattle.std.specs.Prelude.{◌≡◌, IfOk, OnOk, IsErrOf};
+ghost use Rattle.std.specs.Prelude.{◌≡◌, ◌*◌, length, IfOk, OnOk, IsErrOf};
 ghost use Rattle.decode_text.specs.Digits.{is_blank, digits_of, IsHexadecimal, bytes_told};
 ghost use Rattle.decode_text.specs.DecodeText.{Answers};
 
@@ -28,11 +28,12 @@ fn digits_of(alloc: Global, text: &[u8]) -> Result<Vec<u8>, AllocError>
 }
 
 /// The bytes that a text's digits tell, two of them a byte.
-#[tactic(auto, using(crate::proofs::Hexadecimal::hexadecimal_if_told, crate::proofs::Hexadecimal::not_hexadecimal), unfolding(crate::specs::Digits::bytes_told))]
+#[tactic(auto, using(crate::proofs::Hexadecimal::hexadecimal_if_told, crate::proofs::Hexadecimal::not_hexadecimal, crate::proofs::Hexadecimal::pairs_if_told), unfolding(crate::specs::Digits::bytes_told))]
 pub fn bytes_told(alloc: Global, text: &[u8]) -> Result<List<u8>, DecodeError>
     ensures answer { Answers result (bytes_told text.now) }
     ensures ok { OnOk result (IsHexadecimal text.now) }
     ensures hex { IsErrOf result DecodeError.Hex → ¬ IsHexadecimal text.now }
+    ensures pairs { IfOk result (λ bytes. length (digits_of text.now) ≡ 2 * length bytes) }
 {
     let digits = digits_of(alloc, text)?;
     match hex::decode(alloc, digits) {

@@ -5,4 +5,6 @@ pub enum What {
     Reply,
     /// A VMClock page.
     Page,
+    /// The 80 bytes of a segment.
+    Image,
 }

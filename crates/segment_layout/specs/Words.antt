@@ -1,6 +1,7 @@
 -- The ten words of a segment (ClockBound's PROTOCOL): word 0 is the magic, word 1 the header with the generation, and
 -- words 2 to 9 are those of a record.
-use Rattle.std.specs.Prelude.{◌≡◌, ℤ, pos, ℕ, ◌+◌, ◌*◌, ◌/◌, ◌%◌, ◌^◌, ◌<◌, ◌≤◌, Bool, List, [], ◌∷◌, slice_index, unsigned_abs, unwrap_or, ◌==◌, if◌then◌else◌}
+use Rattle.std.specs.Prelude.{◌≡◌, ℤ, pos, ℕ, ◌+◌, ◌*◌, ◌/◌, ◌%◌, ◌^◌, ◌<◌, ◌≤◌, Bool, List, [], ◌∷◌, drop, slice_index, unsigned_abs, unwrap_or, ◌==◌, if◌then◌else◌}
+use Rattle.byteorder.specs.Endian.{little_number}
 use Rattle.clock_gate.specs.declared.clock_status.ClockStatus.{ClockStatus}
 use Rattle.clock_gate.specs.declared.clock_status.ClockStatus.TheVariants.{Unknown}
 use Rattle.clock_gate.specs.ClockStatus.{code_of, status_of_code}
@@ -71,3 +72,13 @@ fields_of_words words = record {
   status = status_with (slice_index words 8 / 2 ^ 32);
   support = slice_index words 9 == 1;
 }
+
+-- the word in eight bytes from a place on, the lowest byte first
+unfoldable pub word_at : ℕ → List ℕ → ℕ
+word_at place bytes = little_number 8 (drop place bytes)
+
+-- the ten words of a segment's bytes
+abbrev pub words_of_image : List ℕ → List ℕ
+words_of_image bytes =
+    word_at 0 bytes ∷ word_at 8 bytes ∷ word_at 16 bytes ∷ word_at 24 bytes ∷ word_at 32 bytes
+    ∷ word_at 40 bytes ∷ word_at 48 bytes ∷ word_at 56 bytes ∷ word_at 64 bytes ∷ word_at 72 bytes ∷ []

@@ -1,8 +1,8 @@
 ghost use Rattle.std.specs.Prelude.{◌≡◌, ℕ, ◌%◌, ◌^◌, ◌<◌, slice_index, IfOk, Ok};
-ghost use Rattle.byteorder.specs.Endian.{little_number, IsRead};
 ghost use Rattle.generation_word.specs.Header.{header_of};
 ghost use Rattle.generation_word.specs.declared.layout.Layout.TheVariants.{Two};
 ghost use Rattle.segment_layout.specs.Image.{IsHeaderFor, IsImageOf, first_fault, has_magic, reads_version, header_tests, data_tests, unless, start_at, image_of};
+ghost use Rattle.segment_layout.specs.Words.{words_of_image};
 ghost use Rattle.segment_layout.specs.declared.start.Start.{Start};
 
 use crate::image_fault::ImageFault;
@@ -15,7 +15,7 @@ use generation_word::{LOW_HALF_THREE, Layout, split_word1};
 
 /// The ten words of a segment's 80 bytes, each with its lowest byte first.
 pub fn image_words(image: &[u8; 80]) -> [u64; 10]
-    ensures { IsRead little_number 8 image.now result }
+    ensures { result ≡ words_of_image image.now }
 {
     let mut words = [0; 10];
     LittleEndian::read_u64_into(image, &mut words);

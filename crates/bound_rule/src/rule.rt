@@ -1,31 +1,12 @@
-//! When a poll is good, and what it bounds.
-ghost use Rattle.std.specs.Prelude.{◌≡◌, ◌≤◌, ◌↔◌, pos, IfOk};
+ghost use Rattle.std.specs.Prelude.{◌≡◌, ◌≤◌, pos, IfOk};
 ghost use Rattle.clock_gate.specs.declared.limits.TheConstants.{LAST_MOMENT};
-ghost use Rattle.bound_cli.specs.GoodPoll.{assess_of, IsGoodAt};
+ghost use Rattle.bound_rule.specs.GoodPoll.{assess_of, IsGoodAt};
 
+use crate::good::Good;
+use crate::unfit::Unfit;
 use candm_codec::{Leap, Tracking};
 use chrony_fraction::ceil_bound;
 use clock_gate::{Reading, Stamp};
-
-/// What a good poll gives: a bound, and the monotonic times between which it may be used.
-#[derive(Clone, Copy, Debug, PartialEq, Eq)]
-pub struct Good {
-    /// When chrony was asked.
-    pub as_of: Stamp,
-    /// 1,000 s later (this project's choice).
-    pub void_after: Stamp,
-    /// How far the clock may be off at as-of, in nanoseconds from 0 to 2^62.
-    pub bound: i64,
-}
-
-/// Why a readable reply bounds nothing.
-#[derive(Clone, Copy, Debug, PartialEq, Eq, Hash)]
-pub enum Unfit {
-    /// chronyd follows no source: its leap status is 3.
-    NotSynchronised,
-    /// The clock error bound is above 2^62 ns.
-    BoundTooLarge,
-}
 
 const VALID_NANOS: u64 = 1_000_000_000_000;
 

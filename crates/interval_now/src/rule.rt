@@ -1,11 +1,10 @@
-//! The interval of true time at a reading of the clock, with its status.
 ghost use Rattle.std.specs.Prelude.{◌≡◌, ◌≤◌, ◌≤ℤ◌, ◌^◌, ◌-ℤ◌, ◌+ℤ◌, ◌<ℤ◌, ◌↔◌, ◌+◌, IsErr, pos};
 ghost use Rattle.clock_gate.specs.declared.limits.TheConstants.{LAST_MOMENT};
-ghost use Rattle.bound_cli.specs.Interval.{interval_of, client_status, is_unabsorbed, elapsed_of, growth_of, half_width_of, IsGrowth};
+ghost use Rattle.interval_now.specs.Interval.{interval_of, client_status, is_unabsorbed, elapsed_of, growth_of, half_width_of, IsGrowth};
 
 use crate::answers::{Causality, Interval};
-use crate::segment_layout::Record;
 use clock_gate::{ClockStatus, Reading};
+use segment_layout::Record;
 
 // A monotonic time may lie this far before as-of: the two clocks are read one after the other.
 const SLACK_NANOS: i128 = 1_000;

@@ -4,9 +4,9 @@ use Rattle.candm_codec.specs.declared.tracking.Leap.{Leap}
 use Rattle.candm_codec.specs.declared.tracking.Leap.TheVariants.{Normal, Insert, Delete, Unsynchronised}
 use Rattle.candm_codec.specs.declared.tracking.Tracking.{Tracking}
 use Rattle.chrony_fraction.specs.ClockError.{error_units, clock_error_bound}
-use Rattle.bound_cli.specs.declared.bound_rule.Good.{Good}
-use Rattle.bound_cli.specs.declared.bound_rule.Unfit.{Unfit}
-use Rattle.bound_cli.specs.declared.bound_rule.Unfit.TheVariants.{NotSynchronised, BoundTooLarge}
+use Rattle.bound_rule.specs.declared.good.Good.{Good}
+use Rattle.bound_rule.specs.declared.unfit.Unfit.{Unfit}
+use Rattle.bound_rule.specs.declared.unfit.Unfit.TheVariants.{NotSynchronised, BoundTooLarge}
 
 -- the clock error bound of a reply, where it is at most 2^62 ns
 abbrev pub bound_of_reply : Tracking → Option ℕ

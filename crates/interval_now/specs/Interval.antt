@@ -3,9 +3,9 @@ use Rattle.std.specs.Prelude.{ℕ, ◌+◌, ◌*◌, ◌≤◌, ℤ, pos, ◌+�
 use Rattle.std.specs.Int.{div_ceil, int_max}
 use Rattle.clock_gate.specs.declared.clock_status.ClockStatus.{ClockStatus}
 use Rattle.clock_gate.specs.declared.clock_status.ClockStatus.TheVariants.{Unknown, Synchronized, FreeRunning, Disrupted}
-use Rattle.bound_cli.specs.Record.{RecordFields}
-use Rattle.bound_cli.specs.declared.answers.Interval.{Interval}
-use Rattle.bound_cli.specs.declared.answers.Causality.{Causality}
+use Rattle.segment_layout.specs.Record.{RecordFields}
+use Rattle.interval_now.specs.declared.answers.Interval.{Interval}
+use Rattle.interval_now.specs.declared.answers.Causality.{Causality}
 
 -- the nanoseconds since as-of, or 0 before it
 abbrev pub elapsed_of : ℤ → ℕ → ℕ
