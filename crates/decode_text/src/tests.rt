@@ -28,6 +28,11 @@ const PAGE: [u8; 208] =
     00000000000000000000000000000000000000000000000000000000000000000000000000000000\
     000000000000000000000000000000000000000000000000";
 
+// A segment of layout 2 with generation 65,534: as-of 1 s, void-after 1,001 s, bound 244,142 ns, drift 50,000 ppb.
+const IMAGE: [u8; 160] =
+    *b"4e5a4d4100024243500000000200feff01000000000000000000000000000000e903000000000000\
+    0000000000000000aeb9030000000000000000000000000050c30000010000000000000000000000";
+
 fn is_told(alloc: Global, what: What, text: &[u8], want: &str) -> bool {
     match decode(alloc, what, text) {
         Ok(told) => told.as_slice() == want.as_bytes(),
@@ -36,10 +41,12 @@ fn is_told(alloc: Global, what: What, text: &[u8], want: &str) -> bool {
 }
 
 #[test]
-fn a_reply_and_a_page_are_told(rt: HostRuntime) {
+fn a_reply_a_page_and_an_image_are_told(rt: HostRuntime) {
     let alloc = rt.alloc();
     assert!(rt; is_told(alloc, What::Reply, &REPLY, REPLY_LINES));
     assert!(rt; is_told(alloc, What::Page, &PAGE, "page,104,1,0,2,7\n"));
+    let image = "image,kept,65534,1000000000,1001000000000,244142,0,50000,synchronized,0\n";
+    assert!(rt; is_told(alloc, What::Image, &IMAGE, image));
 }
 
 #[test]
@@ -72,6 +79,51 @@ fn a_page_with_one_digit_changed(rt: HostRuntime) {
         let mut text = PAGE;
         text[place] = digit;
         assert!(rt; is_told(rt.alloc(), What::Page, &text, want), "{want}");
+    }
+}
+
+#[test]
+fn an_image_with_some_digits_changed(rt: HostRuntime) {
+    for (place, digits, want) in [
+        (28, "ffff", "image,torn,65535\n"),
+        (28, "0000", "image,fresh\n"),
+        // Layout 3, whose generation has 32 bits.
+        (
+            16,
+            "5000030002000100",
+            "image,kept,65538,1000000000,1001000000000,244142,0,50000,synchronized,0\n",
+        ),
+        (16, "5000030003000000", "image,torn,3\n"),
+        (16, "5000030000000000", "image,fresh\n"),
+        (
+            144,
+            "01",
+            "image,kept,65534,1000000000,1001000000000,244142,0,50000,synchronized,1\n",
+        ),
+        (
+            136,
+            "03",
+            "image,kept,65534,1000000000,1001000000000,244142,0,50000,disrupted,0\n",
+        ),
+        (0, "5", "refused,magic\n"),
+        (16, "51", "refused,size,81\n"),
+        (24, "ff", "refused,version,255\n"),
+        (54, "ff", "refused,nanoseconds,3\n"),
+        (86, "ff", "refused,nanoseconds,5\n"),
+        (110, "ff", "refused,bound,-72057594037683794\n"),
+        (134, "ff", "refused,drift,4278240080\n"),
+        (142, "ff", "refused,status,-16777215\n"),
+        (144, "ff", "refused,flag,255\n"),
+        (38, "ff", "refused,range,2\n"),
+        (70, "ff", "refused,range,4\n"),
+    ] {
+        let mut text = IMAGE;
+        for (i, digit) in digits.bytes().enumerate() {
+            if let Some(old) = text.get_mut(place + i) {
+                *old = digit;
+            }
+        }
+        assert!(rt; is_told(rt.alloc(), What::Image, &text, want), "{want}");
     }
 }
 
@@ -139,6 +191,10 @@ fn blanks_and_the_case_of_digits_tell_nothing(rt: HostRuntime) -> Result<(), All
 
 #[test]
 fn other_texts_are_no_digits(rt: HostRuntime) {
+    for text in [b"".as_slice(), &IMAGE[2..], b"4e5a4d41"] {
+        let told = decode(rt.alloc(), What::Image, text);
+        assert!(rt; told.is_err_and(|error| error == DecodeError::Hex));
+    }
     for (message, text) in [
         ("one digit", b"0".as_slice()),
         ("three digits", b"06 0"),
@@ -150,7 +206,7 @@ fn other_texts_are_no_digits(rt: HostRuntime) {
         ("the letter after f", b"0g"),
         ("a no-break space", b"06\xc2\xa0"),
     ] {
-        for what in [What::Reply, What::Page] {
+        for what in [What::Reply, What::Page, What::Image] {
             let told = decode(rt.alloc(), what, text);
             assert!(rt;
                 told.is_err_and(|error| error == DecodeError::Hex),
