@@ -47,5 +47,4 @@ pub fn header_laws()
     // Other numbers make other words, and so do other layouts.
     ensures one_number { (layout : Layout) (g h : ℕ) → word1_of layout g ≡ word1_of layout h → g ≡ h }
     ensures apart { (g h : ℕ) → word1_of Two g ≢ word1_of Three h }
-{
-}
+{}

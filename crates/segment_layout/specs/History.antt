@@ -20,8 +20,8 @@ pub record AbstractSegment : Type 0 where
   pub is_writing : Bool
 
 -- the changes of word 1 so far: twice the position, and one more while an update is open
-abbrev pub point_of : AbstractSegment → ℕ
-point_of segment = 2 * segment.position + flag_of segment.is_writing
+abbrev pub point : AbstractSegment → ℕ
+point segment = 2 * segment.position + flag_of segment.is_writing
 
 -- the generation that stands in word 1
 abbrev pub number_of : ℕ → AbstractSegment → ℕ

@@ -13,6 +13,7 @@ use Rattle.segment_layout.specs.declared.image_fault.ImageFault.TheVariants as f
 use Rattle.segment_layout.specs.Record.{RecordFields, KeepsBounds}
 use Rattle.segment_layout.specs.Words.{record_words, fields_of_words}
 
+-- the generation that a start tells, 0 for a fresh one
 abbrev pub generation_of_start : Start → ℕ
 generation_of_start Fresh = 0
 generation_of_start (Kept generation rec) = generation

@@ -4,14 +4,14 @@ ghost use Rattle.generation_word.specs.declared.layout.Layout.{Layout};
 ghost use Rattle.segment_layout.specs.Record.{RecordFields, KeepsBounds};
 ghost use Rattle.segment_layout.specs.Words.{record_words};
 ghost use Rattle.segment_layout.specs.Image.{IsImageOf};
-ghost use Rattle.segment_layout.specs.History.{AbstractSegment, Begun, point_of, number_of, header_seen, start_seen, last_store};
+ghost use Rattle.segment_layout.specs.History.{AbstractSegment, Begun, point, number_of, header_seen, start_seen, last_store};
 
 /// What the abstract segment promises to those who load its words.
 pub fn segment_laws()
-    ensures one_point { (s t : AbstractSegment) → point_of s ≡ point_of t → s ≡ t }
+    ensures one_point { (s t : AbstractSegment) → point s ≡ point t → s ≡ t }
 
     // Fewer publications than a period apart, an equal word 1 means that nothing was stored between.
-    ensures one_segment { (layout : Layout) (s t : AbstractSegment) → 0 < s.position → s.position ≤ t.position → t.position < s.position + period_of layout → header_seen layout s ≡ header_seen layout t → s ≡ t }
+    ensures one_segment { (layout : Layout) (s t : AbstractSegment) → s.position ≤ t.position → t.position < s.position + period_of layout → header_seen layout s ≡ header_seen layout t → s ≡ t }
 
     // A segment that shows its last record is opened as such.
     ensures opened { (layout : Layout) (s : AbstractSegment) (last : RecordFields) → KeepsBounds last.as_of last.void_after last.bound last.drift → IsImageOf layout (record_words (header_seen layout s) last) (start_seen layout s last) }

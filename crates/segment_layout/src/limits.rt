@@ -12,7 +12,8 @@ pub const MOST_BOUND: u64 = 1 << 62;
 /// The largest drift, in parts per billion.
 pub const MOST_DRIFT: u32 = 1_000_000_000;
 
-/// The last as-of and the last void-after, in nanoseconds.
+/// The last as-of, in nanoseconds.
 pub const LAST_AS_OF: i128 = 4_000_000_000_999_999_999;
 
+/// The last void-after, in nanoseconds.
 pub const LAST_VOID_AFTER: i128 = 4_000_001_000_999_999_999;

@@ -73,7 +73,7 @@ fn status_code(status: ClockStatus) -> u64
     status.code() as u64
 }
 
-/// The record that words 2 to 9 stand for; words 0 and 1 are not looked at.
+/// The record that words 2 to 9 stand for, each of which passes `word_ok`; words 0 and 1 are not looked at.
 pub fn from_words(words: &[u64; 10]) -> Record
     requires { AreGoodWords words.now }
     ensures value { result ≡ fields_of_words words.now }
@@ -132,13 +132,13 @@ pub fn word_ok(index: u8, word: u64) -> bool
     }
 }
 
-pub fn is_good_drift(word: u64) -> bool
+fn is_good_drift(word: u64) -> bool
     ensures { IsTrue result ↔ (word % 2 ^ 32 ≤ 1000000000) }
 {
     word % (1 << 32) <= u64::from(MOST_DRIFT)
 }
 
-pub fn is_good_status(word: u64) -> bool
+fn is_good_status(word: u64) -> bool
     ensures { IsTrue result ↔ (word / 2 ^ 32 ≤ 3) }
 {
     word >> 32 <= 3
