@@ -81,9 +81,6 @@ fn a_good_reply_holds_from_when_it_was_asked_for(rt: HostRuntime) {
         real: 1_700_000_000_000_000_000,
     };
     let good = assess(&reply(Leap::Normal, 0xea80_0000), asked);
-    assert_eq!(rt; good.map(|good| good.as_of.nanos()), Ok(1_000_000_007));
-    assert_eq!(rt;
-        good.map(|good| good.void_after.nanos()),
-        Ok(1_001_000_000_007)
-    );
+    let held = good.map(|good| (good.as_of.nanos(), good.void_after.nanos()));
+    assert_eq!(rt; held, Ok((1_000_000_007, 1_001_000_000_007)));
 }

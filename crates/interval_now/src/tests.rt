@@ -19,11 +19,9 @@ fn record() -> Option<Record> {
     )
 }
 
-// Half the width of the interval and its status, where it lies evenly round the real time.
-fn told(answer: Result<Interval, Causality>) -> Option<(i128, ClockStatus)> {
-    let interval = answer.ok()?;
-    let half = interval.latest - i128::from(REAL);
-    (interval.earliest == i128::from(REAL) - half).then_some((half, interval.status))
+fn told(half: u32, status: ClockStatus) -> (i128, i128, ClockStatus) {
+    let real = i128::from(REAL);
+    (real - i128::from(half), real + i128::from(half), status)
 }
 
 #[test]
@@ -32,19 +30,9 @@ fn widths_and_statuses_at_readings(rt: HostRuntime) {
         (1_000_000_001, Some(7), 244_143, ClockStatus::Synchronized),
         (5_999_999_999, Some(7), 494_142, ClockStatus::Synchronized),
         (6_000_000_000, Some(7), 494_142, ClockStatus::FreeRunning),
-        (
-            1_000_999_999_999,
-            Some(7),
-            50_244_142,
-            ClockStatus::FreeRunning,
-        ),
+        (1_000_999_999_999, Some(7), 50_244_142, ClockStatus::FreeRunning),
         (1_001_000_000_000, Some(7), 50_244_142, ClockStatus::Unknown),
-        (
-            1_001_000_000_000,
-            Some(8),
-            50_244_142,
-            ClockStatus::Disrupted,
-        ),
+        (1_001_000_000_000, Some(8), 50_244_142, ClockStatus::Disrupted),
         (1_001_000_000_000, None, 50_244_142, ClockStatus::Unknown),
         (999_999_000, Some(7), 244_142, ClockStatus::Synchronized),
     ] {
@@ -53,12 +41,9 @@ fn widths_and_statuses_at_readings(rt: HostRuntime) {
             mono,
             real: REAL,
         };
-        let answer = record().map(|rec| interval(&rec, reading, marker));
-        assert_eq!(rt;
-            answer.and_then(told),
-            Some((half, status)),
-            "{mono}, page {marker:?}"
-        );
+        let answer = record().and_then(|rec| interval(&rec, reading, marker).ok());
+        let found = answer.map(|found| (found.earliest, found.latest, found.status));
+        assert_eq!(rt; found, Some(told(half, status)), "{mono}, page {marker:?}");
     }
 }
 

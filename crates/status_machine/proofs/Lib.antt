@@ -1,0 +1,2 @@
+pub mod LookBack
+pub mod LastMarkLemmas

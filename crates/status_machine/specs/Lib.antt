@@ -1,0 +1,4 @@
+pub mod Poll
+pub mod Incarnation
+pub mod LastMark
+pub mod Step
