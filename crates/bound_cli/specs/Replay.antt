@@ -1,5 +1,5 @@
 -- What is reported of a trace: one opening, one publication, one answer.
-use Rattle.std.specs.Prelude.{ℕ, List, [], ◌++◌, ◌==◌, false, None, Result, Ok, Err}
+use Rattle.std.specs.Prelude.{ℕ, List, [], ◌++◌, false, None, Result, Ok, Err}
 use Rattle.clock_gate.specs.declared.clock_status.ClockStatus.{ClockStatus}
 use Rattle.clock_gate.specs.declared.clock_status.ClockStatus.TheVariants.{Unknown, Synchronized, FreeRunning, Disrupted}
 use Rattle.trace_reader.specs.declared.trace_error.TraceFault.{TraceFault}

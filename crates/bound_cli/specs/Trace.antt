@@ -1,5 +1,5 @@
 -- The one form of trace that is replayed as yet: a header, a clock row, a poll with a good reply, a clock row, a call.
-use Rattle.std.specs.Prelude.{◌≡◌, ℕ, ◌-◌, ◌≤◌, Bool, false, ◌&&◌, ◌==◌, List, [], length, codes, Option, Some, None, Result, Ok, Err, option_and_then, slice_get, if◌then◌else◌}
+use Rattle.std.specs.Prelude.{ℕ, ◌-◌, Bool, false, ◌&&◌, ◌==◌, List, length, codes, Option, Some, None, Result, option_and_then, slice_get, if◌then◌else◌}
 use Rattle.std.specs.Option.{ok_or, option_map_or}
 use Rattle.std.specs.Result.{result_ok}
 use Rattle.std.specs.Str.{bytes_eq}
@@ -11,8 +11,7 @@ use Rattle.trace_reader.specs.Fields.{number_in, bytes_in}
 use Rattle.trace_reader.specs.declared.reason.Reason.TheVariants.{Kind}
 use Rattle.trace_reader.specs.declared.trace_error.TraceFault.{TraceFault}
 use Rattle.bound_rule.specs.declared.good.Good.{Good}
-use Rattle.bound_cli.specs.declared.one_poll.OnePoll.{OnePoll}
-use Rattle.bound_rule.specs.GoodPoll.{assess_of, IsGoodAt}
+use Rattle.bound_rule.specs.GoodPoll.{assess_of}
 
 -- what an option holds goes into the next step; none stays none
 infixl 10 ◌>>=◌

@@ -85,7 +85,7 @@ fn a_page_with_one_digit_changed(rt: HostRuntime) {
 #[test]
 fn an_image_with_some_digits_changed(rt: HostRuntime) {
     for (place, digits, want) in [
-        (28, "ffff", "image,torn,65535\n"),
+        (28_usize, "ffff", "image,torn,65535\n"),
         (28, "0000", "image,fresh\n"),
         // Layout 3, whose generation has 32 bits.
         (
@@ -119,7 +119,7 @@ fn an_image_with_some_digits_changed(rt: HostRuntime) {
     ] {
         let mut text = IMAGE;
         for (i, digit) in digits.bytes().enumerate() {
-            if let Some(old) = text.get_mut(place + i) {
+            if let Some(old) = text.get_mut(place.saturating_add(i)) {
                 *old = digit;
             }
         }
