@@ -30,9 +30,19 @@ fn widths_and_statuses_at_readings(rt: HostRuntime) {
         (1_000_000_001, Some(7), 244_143, ClockStatus::Synchronized),
         (5_999_999_999, Some(7), 494_142, ClockStatus::Synchronized),
         (6_000_000_000, Some(7), 494_142, ClockStatus::FreeRunning),
-        (1_000_999_999_999, Some(7), 50_244_142, ClockStatus::FreeRunning),
+        (
+            1_000_999_999_999,
+            Some(7),
+            50_244_142,
+            ClockStatus::FreeRunning,
+        ),
         (1_001_000_000_000, Some(7), 50_244_142, ClockStatus::Unknown),
-        (1_001_000_000_000, Some(8), 50_244_142, ClockStatus::Disrupted),
+        (
+            1_001_000_000_000,
+            Some(8),
+            50_244_142,
+            ClockStatus::Disrupted,
+        ),
         (1_001_000_000_000, None, 50_244_142, ClockStatus::Unknown),
         (999_999_000, Some(7), 244_142, ClockStatus::Synchronized),
     ] {

@@ -7,6 +7,6 @@ pub struct Base {
     pub as_of: Stamp,
     /// How far the clock may be off at as-of, in nanoseconds from 0 to 2^62.
     pub bound: i64,
-    /// The number of the poll, or 0 where the segment's record came from before this program's history.
+    /// The number of the poll, or 0 for the record that the segment held at first.
     pub poll: u32,
 }

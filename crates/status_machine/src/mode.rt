@@ -9,7 +9,7 @@ use candm_codec::RefTime;
 pub enum Mode {
     /// Each disruption is absorbed.
     Clear,
-    /// Nothing is known of the marker before the first poll, so the next poll marks.
+    /// Nothing is known of the marker before the first poll, so the next poll marks. There is a page.
     MustMark,
     /// A disruption isn't absorbed yet.
     Disrupted {
