@@ -1,3 +1,4 @@
+pub mod Acts
 pub mod ClockRow
 pub mod ClockStatus
 pub mod Memory
