@@ -1,10 +1,9 @@
 //! The lines that tell of a tracking reply, or of its first fault. Each function appends its part of them.
 ghost use Rattle.std.specs.Prelude.{◌≡◌, ◌++◌, Option, None, Some, IfOk, OnOk};
 ghost use Rattle.std.specs.String.{string_bytes};
-ghost use Rattle.candm_codec.specs.Reply.{code_of};
 ghost use Rattle.decode_text.specs.ReplyLines.{ref_id_digits, address_digits, source_part, state_part, time_part, reply_line, packed_line, offset_lines, frequency_lines, root_lines, bound_line, told_lines, refused_reply, reply_text};
 
-use candm_codec::{Leap, RefTime, ReplyFault, Tracking, read_reply};
+use candm_codec::{RefTime, ReplyFault, Tracking, read_reply};
 use chrony_fraction::{Packed, ceil_bound};
 use std::alloc::{AllocError, Global};
 
@@ -32,22 +31,11 @@ fn put_source(alloc: Global, text: &mut String, t: &Tracking) -> Result<(), Allo
     write!(text, "reply,{sequence},{ref_id},{family},{address},")
 }
 
-fn leap_code(leap: Leap) -> u16
-    ensures { result ≡ code_of leap }
-{
-    match leap {
-        Leap::Normal => 0,
-        Leap::Insert => 1,
-        Leap::Delete => 2,
-        Leap::Unsynchronised => 3,
-    }
-}
-
 #[tactic(auto, unfolding(crate::specs::ReplyLines::state_part))]
 fn put_state(text: &mut String, t: &Tracking) -> Result<(), AllocError>
     ensures { OnOk result (string_bytes text.new ≡ string_bytes text.old ++ state_part t.now) }
 {
-    let (stratum, leap) = (t.stratum, leap_code(t.leap));
+    let (stratum, leap) = (t.stratum, t.leap.code());
     write!(text, "{stratum},{leap},")
 }
 
