@@ -1,6 +1,6 @@
-ghost use Rattle.std.specs.Prelude.{◌≤◌, length};
-ghost use Rattle.clock_gate.specs.ClockRow.{IsReadingOf};
-ghost use Rattle.clock_gate.specs.declared.limits.TheConstants.{MOST_HOST_ROWS};
+ghost use Rattle.std.specs.Prelude.{◌≡◌, ◌≤◌, length};
+ghost use Rattle.clock_gate.specs.ClockRow.{IsReadingOf, reading_at, IsClock};
+ghost use Rattle.clock_gate.specs.declared.limits.TheConstants.{LAST_MOMENT, MOST_HOST_ROWS};
 
 use crate::clock_row::{ClockRow, Reading};
 
@@ -9,7 +9,9 @@ pub fn reading(clock: &[ClockRow], row: u64) -> Reading
     requires first { 1 ≤ row }
     requires last { row ≤ length clock.now }
     requires limited { length clock.now ≤ MOST_HOST_ROWS }
-    ensures { IsReadingOf clock.now row result }
+    ensures row { IsReadingOf clock.now row result }
+    ensures exact { result ≡ reading_at clock.now row }
+    ensures moments { IsClock clock.now → (result.mono ≤ LAST_MOMENT) × (result.real ≤ LAST_MOMENT) }
 {
     let found = clock[row as usize - 1];
     Reading {

@@ -1,0 +1,4 @@
+pub mod Acts
+pub mod TriedRun
+pub mod Tries
+pub mod Traces
