@@ -6,13 +6,8 @@ use Rattle.byteorder.specs.Endian.{little_from, little_number, little_bytes, IsR
 use Rattle.byteorder.specs.Numbers.{little_number-reads_back, length-bytes_low_first}
 use Rattle.vmclock_page.specs.Numbers.{number}
 use Rattle.vmclock_page.specs.Page.{page_at}
-use Rattle.vmclock_page.specs.Words.{words_of, bytes_of_words, page_words, pads_of, count_in_word}
+use Rattle.vmclock_page.specs.Words.{AreWords, words_of, bytes_of_words, page_words, pads_of, count_in_word}
 use Rattle.vmclock_page.specs.declared.layout.TheConstants.{MAGIC, VERSION}
-
--- 13 words of 64 bits
-pub record AreWords (words : List ℕ) : Type 0 where
-  pub all : length words ≡ 13
-  pub fit : (i : ℕ) → slice_index words i < 2 ^ 64
 
 -- a number in what is left after some bytes
 little_from-drop : (i n place : ℕ) (bytes : List ℕ) → little_from i n (drop place bytes) ≡ little_from (place + i) n bytes
@@ -43,7 +38,7 @@ pub words_of-fields : (bytes : List ℕ) → number 4 0 bytes ≡ MAGIC → numb
 words_of-fields bytes magic version = rw (word_0 bytes, word_1 bytes, word_4 bytes, magic, version) refl
 
 -- the items of a list from a place on
-abbrev items_from : ℕ → ℕ → List ℕ → List ℕ
+abbrev pub items_from : ℕ → ℕ → List ℕ → List ℕ
 items_from zero i xs = []
 items_from (suc n) i xs = slice_index xs i ∷ items_from n (suc i) xs
 
@@ -51,9 +46,13 @@ drop-items : (n i : ℕ) (xs : List ℕ) → length xs ≡ i + n → drop i xs �
 drop-items zero i xs len = drop_all i xs (omega arith)
 drop-items (suc n) i xs len = rw (drop-cons xs i 0 (omega arith), drop-items n (suc i) xs (omega arith)) refl
 
+-- all of them, one by one
+pub items : (n : ℕ) (xs : List ℕ) → length xs ≡ n → xs ≡ items_from n 0 xs
+items n xs len = drop-items n 0 xs (omega arith)
+
 -- thirteen words, one by one
 thirteen : (words : List ℕ) → length words ≡ 13 → words ≡ items_from 13 0 words
-thirteen words len = drop-items 13 0 words len
+thirteen = items 13
 
 -- the words read from bytes
 pub words_of-read : (bytes words : List ℕ) → length words ≡ 13 → IsRead little_number 8 bytes words → words ≡ words_of bytes

@@ -5,3 +5,9 @@ pub mod Bounds
 pub mod Page
 pub mod Words
 pub mod Counting
+pub mod Rows
+pub mod Host
+pub mod PageRead
+pub mod Loaded
+pub mod PageTries
+pub mod HostRows

@@ -1,5 +1,5 @@
 -- A page as 13 words of 64 bits, each little-endian in 8 of the page's bytes.
-use Rattle.std.specs.Prelude.{◌≡◌, ◌≤◌, ℕ, ◌+◌, ◌*◌, ◌/◌, ◌%◌, ◌^◌, List, [], ◌∷◌, length, slice_index, Result}
+use Rattle.std.specs.Prelude.{◌≡◌, ◌≤◌, ◌<◌, ℕ, ◌+◌, ◌*◌, ◌/◌, ◌%◌, ◌^◌, List, [], ◌∷◌, length, slice_index, Result}
 use Rattle.std.specs.List.{flat_map}
 use Rattle.byteorder.specs.Endian.{little_bytes}
 use Rattle.vmclock_page.specs.Numbers.{number, AreBytes}
@@ -7,6 +7,11 @@ use Rattle.vmclock_page.specs.ClockPage.{ClockPage}
 use Rattle.vmclock_page.specs.Page.{page_of}
 use Rattle.vmclock_page.specs.declared.layout.TheConstants.{MAGIC, VERSION, PAGE_BYTES}
 use Rattle.vmclock_page.specs.declared.fault.PageFault.{PageFault}
+
+-- 13 words of 64 bits
+pub record AreWords (words : List ℕ) : Type 0 where
+  pub all : length words ≡ 13
+  pub fit : (i : ℕ) → slice_index words i < 2 ^ 64
 
 -- the words that stand in the first 104 bytes
 abbrev pub words_of : List ℕ → List ℕ
@@ -27,7 +32,11 @@ word_with_count constant count = constant + count * 2 ^ 32
 abbrev pub count_in_word : ℕ → ℕ
 count_in_word word = word / 2 ^ 32
 
--- the lower half of word 1: version, counter and kind of time
+-- the lower half of word 1, which never changes
+abbrev pub constants_in_word : ℕ → ℕ
+constants_in_word word = word % 2 ^ 32
+
+-- that half by its fields: version, counter and kind of time
 abbrev pub constant_half : ClockPage → ℕ
 constant_half p = VERSION + p.counter_id * 2 ^ 16 + p.time_type * 2 ^ 24
 
