@@ -1,2 +1,5 @@
 pub mod LookBack
 pub mod LastMarkLemmas
+pub mod Fits
+pub mod BaseOfPoll
+pub mod BaseMarker

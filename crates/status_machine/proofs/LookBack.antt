@@ -29,7 +29,7 @@ guard_of-append (q ∷ ps) p =
     ∙ sym (first_of-assoc (reference_of q.heard) (guard_of ps) (reference_of p.heard))
 
 -- whether a poll absorbs the mark whose guard is given
-absorbs : Option RefTime → Poll → Bool
+unfoldable pub absorbs : Option RefTime → Poll → Bool
 absorbs None p = false
 absorbs (Some guard) p = is_good_other guard p
 
@@ -47,11 +47,11 @@ unfolding absorbs
 absorbed_by-append None ps p b c h = h
 absorbed_by-append (Some g) ps p b c h = one_more (λ (q : Poll). is_good_other g q) ps p
 
-absorbed_none : (r : Option RefTime) → absorbed_by r [] false ≡ false
+pub absorbed_none : (r : Option RefTime) → absorbed_by r [] false ≡ false
 absorbed_none None = refl
 absorbed_none (Some g) = refl
 
-is_absorbed-append : (ps : List Poll) (p : Poll) → is_absorbed (ps ++ p ∷ []) ≡ (is_absorbed ps || absorbs (guard_of ps) p)
+pub is_absorbed-append : (ps : List Poll) (p : Poll) → is_absorbed (ps ++ p ∷ []) ≡ (is_absorbed ps || absorbs (guard_of ps) p)
 unfolding absorbs
 is_absorbed-append [] p = absorbed_none (reference_of p.heard)
 is_absorbed-append (q ∷ ps) p = absorbed_by-append (reference_of q.heard) ps p _ _ (is_absorbed-append ps p)

@@ -2,3 +2,4 @@ pub mod Poll
 pub mod Incarnation
 pub mod LastMark
 pub mod Step
+pub mod BaseMarker

@@ -18,7 +18,7 @@ mod poll;
 pub use base::Base;
 pub use daemon::Daemon;
 pub use heard::{Heard, hear};
-pub use law::last_mark;
+pub use law::{base_keeps_marker, calm_start, last_mark};
 pub use life::records;
 pub use mode::Mode;
 pub use poll::Poll;
