@@ -1,0 +1,2 @@
+pub mod SegmentRun
+pub mod SegmentTries
