@@ -1,1 +1,4 @@
+pub mod Call
+pub mod CallRun
+pub mod CallValues
 pub mod Interval

@@ -30,3 +30,30 @@ pub struct Timed {
     pub sequence: u32,
     pub interval: Interval,
 }
+
+/// What a client call has come to.
+#[derive(Clone, Copy, Debug, PartialEq, Eq)]
+pub enum Answer {
+    /// A try read the record, a try read the page where there is one, and the reading does not lie before the record.
+    Time(Timed),
+    /// Every try to read the segment failed.
+    Busy {
+        /// How many tries there were.
+        tries: u16,
+        /// The generation that the last try loaded first.
+        first: u32,
+        /// The generation that it loaded last; an odd first one stands in both places.
+        last: u32,
+    },
+    /// A try loaded generation 0: nothing was ever published.
+    NotInitialized,
+    /// A try read the record, and then every try to read the page failed.
+    PageBusy {
+        /// The sequence count that the last try loaded first.
+        first: u32,
+        /// The sequence count that it loaded last; an odd first one stands in both places.
+        last: u32,
+    },
+    /// The reading lies before the record.
+    Causality(Causality),
+}

@@ -1,0 +1,4 @@
+pub mod CallCompletes
+pub mod CallFollows
+pub mod CallRun
+pub mod CallSteps
