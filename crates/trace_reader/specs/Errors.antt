@@ -13,3 +13,8 @@ Refuses error.Memory said = ⊤
 abbrev pub Gives : {A B : Type 0} → (A → B) → Result A TraceError → Result B TraceFault → Type 0
 Gives view (Ok x) said = said ≡ Ok (view x)
 Gives view (Err e) said = Refuses e said
+
+-- the answer is what the text says, or its fault
+abbrev pub Answers : {A : Type 0} → Result A TraceError → Result A TraceFault → Type 0
+Answers (Ok x) said = said ≡ Ok x
+Answers (Err e) said = Refuses e said

@@ -1,4 +1,12 @@
+pub mod Checks
 pub mod Errors
+pub mod Facts
 pub mod Fields
+pub mod Grammar
+pub mod Kinds
+pub mod Laws
+pub mod Lines
+pub mod Parts
 pub mod Plain
 pub mod Records
+pub mod Steps

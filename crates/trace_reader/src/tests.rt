@@ -1,3 +1,8 @@
+mod accepted;
+mod limits;
+mod refusals;
+mod texts;
+
 use crate::{Reason, Records, bytes_of, is_word, number};
 use csv::ByteRecord;
 use std::alloc::{AllocError, Global};
