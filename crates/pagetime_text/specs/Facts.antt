@@ -1,0 +1,100 @@
+-- What the lines before a record say, and the tests of a record by these facts.
+use Rattle.std.specs.Prelude.{ℕ, ◌+◌, ◌==◌, ◌||◌, not, Bool, true, false, List, [], ◌∷◌, ◌++◌, length, filter_map, Option, Some, None, Result, Ok, Err, nat_le, if◌then◌else◌}
+use Rattle.std.specs.List.{list_any}
+use Rattle.trace_reader.specs.Records.{records_of}
+use Rattle.trace_reader.specs.declared.reason.Reason.{Reason}
+use Rattle.trace_reader.specs.declared.reason.Reason.TheVariants as reason
+use Rattle.trace_reader.specs.declared.trace_error.TraceFault.{TraceFault}
+use Rattle.vmclock_page.specs.ClockPage.{ClockPage}
+use Rattle.vmclock_time.specs.declared.limits.TheConstants.{MOST_PAGE_ROWS}
+use Rattle.vmclock_time.specs.declared.rows.PageRow.{PageRow}
+use Rattle.vmclock_time.specs.declared.rows.PageRow.TheVariants as row
+use Rattle.pagetime_text.specs.Line.{line_of}
+use Rattle.pagetime_text.specs.Parts.{◌>>=◌}
+use Rattle.pagetime_text.specs.declared.line.Line.{Line}
+use Rattle.pagetime_text.specs.declared.line.Line.TheVariants as line
+
+-- the row that a line says: the header says none
+abbrev pub page_row : Option ClockPage → Option ℕ → Option PageRow
+page_row None truth = None
+page_row (Some page) truth = Some (row.Page page truth)
+
+abbrev pub row_in : Line → Option PageRow
+row_in line.Header = None
+row_in (line.Page page truth) = page_row page truth
+row_in (line.Read counter truth) = Some (row.Read counter truth)
+
+unfoldable pub rows_of : List Line → List PageRow
+rows_of lines = filter_map row_in lines
+
+-- how many lines there are before a record, and their rows
+pub record Facts : Type 0 where
+  pub count : ℕ
+  pub rows : List PageRow
+
+abbrev pub facts_of : List Line → Facts
+facts_of front = record { count = length front; rows = rows_of front }
+
+abbrev pub is_page : PageRow → Bool
+is_page (row.Page page truth) = true
+is_page (row.Read counter truth) = false
+
+-- a page stands before
+unfoldable pub has_page : List PageRow → Bool
+has_page rows = list_any is_page rows
+
+-- the header is the first line and no other, and a read wants a page before it
+abbrev pub breaks_order : Facts → Line → Bool
+breaks_order facts line.Header = not (facts.count == 0)
+breaks_order facts (line.Page page truth) = facts.count == 0
+breaks_order facts (line.Read counter truth) = (facts.count == 0) || not (has_page facts.rows)
+
+-- its bytes are no page
+abbrev pub lacks_page : Option ClockPage → Bool
+lacks_page None = true
+lacks_page (Some page) = false
+
+abbrev pub breaks_page : Line → Bool
+breaks_page line.Header = false
+breaks_page (line.Page page truth) = lacks_page page
+breaks_page (line.Read counter truth) = false
+
+-- it is one row more than a report may have
+abbrev pub passes_limit : Facts → Line → Bool
+passes_limit facts line.Header = false
+passes_limit facts (line.Page page truth) = nat_le MOST_PAGE_ROWS (length facts.rows)
+passes_limit facts (line.Read counter truth) = nat_le MOST_PAGE_ROWS (length facts.rows)
+
+-- the first of these tests that a line fails
+abbrev pub fault_of : Facts → Line → Option Reason
+fault_of facts line =
+    if breaks_order facts line then Some reason.Order
+    else if breaks_page line then Some reason.Page
+    else if passes_limit facts line then Some reason.Limit
+    else None
+
+abbrev pub unless : {A : Type 0} → Option Reason → A → Result A Reason
+unless None x = Ok x
+unless (Some reason) x = Err reason
+
+-- the line of a record after these lines, or why it is refused
+abbrev pub line_after : List Line → List (List ℕ) → Result Line Reason
+line_after front rec = line_of rec >>= λ line. unless (fault_of (facts_of front) line) line
+
+-- a text without records is no trace
+abbrev pub ends : Facts → Result (List PageRow) TraceFault
+ends facts = if facts.count == 0 then Err (record { line = 1; reason = reason.Kind }) else Ok facts.rows
+
+-- a line goes on, a refused record ends the reading
+abbrev pub goes : {A B : Type 0} → ℕ → Result A Reason → (A → Result B TraceFault) → Result B TraceFault
+goes number (Ok x) more = more x
+goes number (Err reason) more = Err (record { line = number; reason = reason })
+
+-- the rows of these lines and of the records after them, or the first of these that is refused, with its first reason
+unfoldable pub rows_after : List Line → List (List (List ℕ)) → Result (List PageRow) TraceFault
+rows_after front [] = ends (facts_of front)
+rows_after front (rec ∷ rest) = goes (length front + 1) (line_after front rec) (λ line. rows_after (front ++ line ∷ []) rest)
+
+-- the rows that a text says, or its first refused record
+abbrev pub rows_in : List ℕ → Result (List PageRow) TraceFault
+rows_in bytes = rows_after [] (records_of bytes)
