@@ -1,0 +1,6 @@
+pub mod Agreement
+pub mod Answers
+pub mod Kind
+pub mod Line
+pub mod Parts
+pub mod Session

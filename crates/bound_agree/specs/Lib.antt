@@ -1,0 +1,5 @@
+pub mod Board
+pub mod Edges
+pub mod Runs
+pub mod Span
+pub mod Sweep
