@@ -1,0 +1,248 @@
+-- Each try of a call that answered Busy failed.
+use Rattle.std.proofs.Common.{◌≡◌, ◌≢◌, ℕ, zero, suc, ◌+◌, ◌-◌, List, [], ◌∷◌, ◌++◌, Option, Some, None, refl, ap, sym, ◌∙◌, subst, arith, inl, inr, append-nil}
+use Rattle.std.specs.Prelude.{slice_get, slice_set, map}
+use Rattle.std.specs.List.{range_with_len}
+use Rattle.std.proofs.lemmas.Bool.{cases_eq}
+use Rattle.clock_gate.specs.declared.trace.Party.{Party}
+use Rattle.clock_gate.specs.declared.trace.Party.TheVariants.{Host, Daemon, Client}
+use Rattle.clock_gate.specs.declared.trace.Trace.{Trace}
+use Rattle.clock_gate.specs.Trace.{IsLawfulTrace}
+use Rattle.interval_now.specs.declared.answers.Answer.{Answer}
+use Rattle.interval_now.specs.declared.answers.Answer.TheVariants as answers
+use Rattle.step_core.specs.declared.event.Event.{Event}
+use Rattle.step_core.specs.declared.event.Trail.{Trail}
+use Rattle.step_core.specs.Run.{Run, turn, turns_by, start, client_start, with_client, answer_events, client_at, client_turn_in}
+use Rattle.step_core.specs.RunSegment.{SegmentRun, number_shown}
+use Rattle.step_core.specs.RunDaemon.{daemon_turn}
+use Rattle.step_core.specs.RunClient as run_client
+use Rattle.step_core.specs.RunClient.{SegmentReading, CallStage, Reading, Clocking, Paging, Answered, CallRun, ClientRun}
+use Rattle.step_core.specs.RunWhole.{run_of}
+use Rattle.step_core.specs.Shared.{Shared, shared_turn, shared_start}
+use Rattle.step_core.specs.SharedClient.{ClientState}
+use Rattle.step_core.specs.ShowsSegment.{IsSegment}
+use Rattle.step_core.specs.Shows.{Shows}
+use Rattle.step_core.specs.AnswerLaws.{EachAnswer, next_call, next_read, IsFailing, first_number, HasFailed, HasFailedAll}
+use Rattle.step_core.proofs.DaemonQuiet.{AreQuiet, daemon_quiet}
+use Rattle.step_core.proofs.RunKeeps.{run_keeps}
+use Rattle.step_core.proofs.ClientLater.{ShowsClientOf}
+use Rattle.step_core.specs.SharedReady.{IsGiven}
+use Rattle.step_core.proofs.Turn.{client_of, turn_shows, start_shows}
+use Rattle.step_core.proofs.AnswerLawsEvents.{each_then, each_more, quiet_each}
+use Rattle.step_core.proofs.AnswerLawsLoad.{Once, Owns, AllIn, AllOf, AllInHand, AllAnswered, IsClientAfter, turn_all}
+use Rattle.step_core.proofs.AnswerLawsWords.{IsSharp, call_sharp}
+
+-- ---- more of a run
+
+turns_one_more : (trace : Trace) (run : Run) (before : List Party) (who : Party) → turns_by trace run (before ++ who ∷ []) ≡ turn trace (turns_by trace run before) who
+turns_one_more trace run [] who = refl
+turns_one_more trace run (first ∷ before) who = turns_one_more trace (turn trace run first) before who
+
+failed_later : (trace : Trace) (run : Run) (client call left first last : ℕ) (who : Party) → HasFailed trace run client call left first last → HasFailed trace (turn trace run who) client call left first last
+failed_later trace run client call left first last who failed =
+    record {
+      before = failed.before;
+      after = failed.after ++ who ∷ [];
+      state = failed.state;
+      stands = failed.stands;
+      fails = failed.fails;
+      leads = turns_one_more trace (turn trace (turns_by trace (start trace) failed.before) (Client client)) failed.after who ∙ ap (λ (r : Run). turn trace r who) failed.leads;
+    }
+
+-- ---- a run
+
+abbrev AllOfClient : Trace → Run → (client : ℕ) → Option ClientRun → Type 0
+AllOfClient trace run client None = Unit {0}
+AllOfClient trace run client (Some state) = AllInHand (HasFailed trace run client) state.begun state.call
+
+-- the tries of every call in hand that are not left have failed, and all of every call that answered Busy
+record IsFailedRun (trace : Trace) (run : Run) : Type 0 where
+  turns : List Party
+  reached : turns_by trace (start trace) turns ≡ run
+  calls : (client : ℕ) → AllOfClient trace run client (client_at run.clients client)
+  answers : EachAnswer (HasFailedAll trace run) run.events
+
+module _ (Old New : (left first last : ℕ) → Type 0) (each : (left first last : ℕ) → Old left first last → New left first last) where
+  once_later : (left : ℕ) → Once (Old left) → Once (New left)
+  once_later left once = (once.0, (once.1.0, each left once.0 once.1.0 once.1.1))
+
+  stage_later : (stage : CallStage) (tries : ℕ) → AllIn Old stage tries → AllIn New stage tries
+  stage_later (Reading reading) tries all = λ one more most. once_later one (all one more most)
+  stage_later (Clocking read) tries all = tt
+  stage_later (Paging clocked reading mark_at) tries all = tt
+
+-- a turn leads from a run to a new one
+module _ (trace : Trace) (run : Run) (who : Party) (new : Run) (leads : turn trace run who ≡ new) where
+  failed_to : (client call left first last : ℕ) → HasFailed trace run client call left first last → HasFailed trace new client call left first last
+  failed_to client call left first last failed = subst (λ (r : Run). HasFailed trace r client call left first last) leads (failed_later trace run client call left first last who failed)
+
+  call_later : (client begun : ℕ) (call : Option CallRun) → AllInHand (HasFailed trace run client) begun call → AllInHand (HasFailed trace new client) begun call
+  call_later client begun None all = tt
+  call_later client begun (Some call) all =
+      stage_later (HasFailed trace run client begun) (HasFailed trace new client begun) (failed_to client begun) call.stage call.tries all
+
+  client_later : (client : ℕ) (state : Option ClientRun) → AllOfClient trace run client state → AllOfClient trace new client state
+  client_later client None all = tt
+  client_later client (Some state) all = call_later client state.begun state.call all
+
+  answer_later : (client call : ℕ) (answer : Answer) (trail : Option Trail) → HasFailedAll trace run client call answer trail → HasFailedAll trace new client call answer trail
+  answer_later client call (answers.Busy tries first last) trail all =
+      (λ left some most. once_later (HasFailed trace run client call) (HasFailed trace new client call) (failed_to client call) left (all.0 left some most), failed_to client call 1 first last all.1)
+  answer_later client call (answers.Time time) trail all = tt
+  answer_later client call answers.NotInitialized trail all = tt
+  answer_later client call (answers.PageBusy first last) trail all = tt
+  answer_later client call (answers.Causality causality) trail all = tt
+
+  answers_later : (told : List Event) → EachAnswer (HasFailedAll trace run) told → EachAnswer (HasFailedAll trace new) told
+  answers_later told all = each_then (HasFailedAll trace run) (HasFailedAll trace new) answer_later told all
+
+  reached_later : (turns : List Party) → turns_by trace (start trace) turns ≡ run → turns_by trace (start trace) (turns ++ who ∷ []) ≡ new
+  reached_later turns reached = turns_one_more trace (start trace) turns who ∙ ap (λ (r : Run). turn trace r who) reached ∙ leads
+
+  -- a turn that leaves the clients, and tells of no answer
+  still_failed : (told : List Event) → new.clients ≡ run.clients → new.events ≡ run.events ++ told → AreQuiet told → IsFailedRun trace run → IsFailedRun trace new
+  still_failed told clients events quiet is =
+      record {
+        turns = is.turns ++ who ∷ [];
+        reached = reached_later is.turns is.reached;
+        calls = λ client. subst (λ (c : List ClientRun). AllOfClient trace new client (client_at c client)) (sym clients) (client_later client (client_at run.clients client) (is.calls client));
+        answers = subst (EachAnswer (HasFailedAll trace new)) (sym events)
+            (each_more (HasFailedAll trace new) run.events told (answers_later run.events is.answers) (quiet_each (HasFailedAll trace new) told quiet));
+      }
+
+-- one client's place, after another state of a client is set
+set_same : (clients : List ClientRun) (place : ℕ) (old new : ClientRun) → slice_get clients place ≡ Some old → slice_get (slice_set clients place new) place ≡ Some new
+set_same [] place old new at = absurd (cc at)
+set_same (client ∷ clients) zero old new at = refl
+set_same (client ∷ clients) (suc place) old new at = set_same clients place old new at
+
+set_other : (clients : List ClientRun) (place other : ℕ) (new : ClientRun) → other ≢ place → slice_get (slice_set clients place new) other ≡ slice_get clients other
+set_other [] place other new differs = refl
+set_other (client ∷ clients) zero zero new differs = absurd (differs refl)
+set_other (client ∷ clients) zero (suc other) new differs = refl
+set_other (client ∷ clients) (suc place) zero new differs = refl
+set_other (client ∷ clients) (suc place) (suc other) new differs = set_other clients place other new (λ same. differs (ap suc same))
+
+other_at : (clients : List ClientRun) (client place : ℕ) (new : ClientRun) → suc place ≢ client → client_at (slice_set clients (suc place - 1) new) client ≡ client_at clients client
+other_at clients zero place new differs = refl
+other_at clients (suc other) place new differs =
+    set_other clients (suc place - 1) other new (λ same. let one_less : suc place - 1 ≡ place = omega arith in differs (ap suc (sym (same ∙ one_less))))
+
+same_at : (clients : List ClientRun) (place : ℕ) (old new : ClientRun) → slice_get clients place ≡ Some old → client_at (slice_set clients (suc place - 1) new) (suc place) ≡ Some new
+same_at clients place old new at =
+    let one_less : suc place - 1 ≡ place = omega arith in
+    ap (λ (n : ℕ). slice_get (slice_set clients n new) place) one_less ∙ set_same clients place old new at
+
+told_all : (trace : Trace) (new : Run) (client call : ℕ) (answer : Answer) (trail : Option Trail) → AllOf (HasFailed trace new client call) answer → HasFailedAll trace new client call answer trail
+told_all trace new client call (answers.Busy tries first last) trail all = all
+told_all trace new client call (answers.Time time) trail all = tt
+told_all trace new client call answers.NotInitialized trail all = tt
+told_all trace new client call (answers.PageBusy first last) trail all = tt
+told_all trace new client call (answers.Causality causality) trail all = tt
+
+answered_all : (trace : Trace) (new : Run) (client begun : ℕ) (answered : Option Answered) → AllAnswered (HasFailed trace new client) begun answered → EachAnswer (HasFailedAll trace new) (answer_events client begun answered)
+answered_all trace new client begun None all = tt
+answered_all trace new client begun (Some answered) all = (told_all trace new client begun answered.answer answered.trail all, tt)
+
+-- a turn of the client at this place, for which a load that fails a try is sharp
+module _ (trace : Trace) (run : Run) (place : ℕ) (old : ClientRun) (at : slice_get run.clients place ≡ Some old) (sharp : IsSharp run.segment (next_read old.left old.call)) (is : IsFailedRun trace run) where
+  abbrev next : run_client.ClientTurn
+  next = run_client.client_turn trace run.host run.segment old
+
+  abbrev new : Run
+  new = with_client run (suc place) next
+
+  turned : turn trace run (Client (suc place)) ≡ new
+  turned = ap (client_turn_in trace run (suc place)) at
+
+  -- it fails a try of its own call
+  own_failed : (reading : SegmentReading) → next_read old.left old.call ≡ Some reading → Owns (HasFailed trace new (suc place) (next_call old.begun old.call)) run.segment reading.left reading.try
+  own_failed reading read fails =
+      let sharply = sharp reading read fails in
+      let stood : SegmentRun = (turns_by trace (start trace) is.turns).segment in
+      let same : stood ≡ run.segment = ap (λ (r : Run). r.segment) is.reached in (
+        sharply.0,
+        record {
+          before = is.turns;
+          after = [];
+          state = old;
+          stands = ap (λ (r : Run). slice_get r.clients place) is.reached ∙ at;
+          fails = record {
+            reading = reading;
+            read = read;
+            number = refl;
+            tries = refl;
+            fails = subst (λ (s : SegmentRun). IsFailing s reading.try) (sym same) sharply.1;
+            loaded_first = ap (λ (s : SegmentRun). first_number s reading.try) same;
+            loaded_last = ap number_shown same;
+          };
+          leads = ap (λ (r : Run). turn trace r (Client (suc place))) is.reached ∙ turned;
+        },
+      )
+
+  old_all : AllInHand (HasFailed trace new (suc place)) old.begun old.call
+  old_all = call_later trace run (Client (suc place)) new turned (suc place) old.begun old.call (subst (AllOfClient trace run (suc place)) at (is.calls (suc place)))
+
+  own_after : IsClientAfter (HasFailed trace new (suc place)) next
+  own_after = turn_all (HasFailed trace new (suc place)) trace run.host run.segment old old.call refl old_all own_failed
+
+  calls_after : (client : ℕ) → AllOfClient trace new client (client_at new.clients client)
+  calls_after client =
+      elim (cases_eq (suc place) client) [
+        | inl same ↦
+            subst (λ (n : ℕ). AllOfClient trace new n (client_at new.clients n)) same
+            (subst (AllOfClient trace new (suc place)) (sym (same_at run.clients place old next.client at)) own_after.in_hand)
+        | inr differs ↦
+            subst (AllOfClient trace new client) (sym (other_at run.clients client place next.client differs))
+            (client_later trace run (Client (suc place)) new turned client (client_at run.clients client) (is.calls client))
+      ]
+
+  client_failed : IsFailedRun trace new
+  client_failed =
+      record {
+        turns = is.turns ++ Client (suc place) ∷ [];
+        reached = reached_later trace run (Client (suc place)) new turned is.turns is.reached;
+        calls = calls_after;
+        answers = each_more (HasFailedAll trace new) run.events (answer_events (suc place) next.client.begun next.answered)
+            (answers_later trace run (Client (suc place)) new turned run.events is.answers)
+            (answered_all trace new (suc place) next.client.begun next.answered own_after.answered);
+      }
+
+client_by : (trace : Trace) (run : Run) (place : ℕ) (old : Option ClientRun) (client : Option ClientState) → slice_get run.clients place ≡ old → IsSegment run.segment → ShowsClientOf trace run.host run.segment (suc place) old client
+    → IsFailedRun trace run → IsFailedRun trace (client_turn_in trace run (suc place) old)
+client_by trace run place None client at seg shows is = is
+client_by trace run place (Some old) None at seg shows is = absurd shows
+client_by trace run place (Some old) (Some client) at seg shows is =
+    client_failed trace run place old at (call_sharp trace run.host run.segment seg old.left old.call client.call client.marks shows.tries shows.call) is
+
+turn_failed : (trace : Trace) (run : Run) (w : Shared) (who : Party) → Shows trace run w → IsFailedRun trace run → IsFailedRun trace (turn trace run who)
+turn_failed trace run w Host shows is = still_failed trace run Host (turn trace run Host) refl [] refl (sym (append-nil run.events)) tt is
+turn_failed trace run w Daemon shows is =
+    still_failed trace run Daemon (turn trace run Daemon) refl (daemon_turn trace run.host run.segment run.daemon).events refl refl (daemon_quiet trace run.host run.segment run.daemon).none is
+turn_failed trace run w (Client zero) shows is = is
+turn_failed trace run w (Client (suc place)) shows is =
+    client_by trace run place (slice_get run.clients place) (slice_get w.clients place) refl shows.segment.is (client_of trace run w place shows) is
+
+-- ---- the whole run
+
+-- at the start no call is in hand
+none_at : (trace : Trace) (run : Run) (client number clients place : ℕ) → AllOfClient trace run client (slice_get (map (client_start trace.calls) (range_with_len number clients)) place)
+none_at trace run client number zero place = tt
+none_at trace run client number (suc clients) zero = tt
+none_at trace run client number (suc clients) (suc place) = none_at trace run client (number + 1) clients place
+
+no_calls : (trace : Trace) (client : ℕ) → AllOfClient trace (start trace) client (client_at (start trace).clients client)
+no_calls trace zero = tt
+no_calls trace (suc place) = none_at trace (start trace) (suc place) 1 trace.clients place
+
+-- a run that words show
+abbrev IsShownRun : Trace → Run → Type 0
+IsShownRun trace run = (w : Shared) × (Shows trace run w × IsFailedRun trace run)
+
+shown_keeps : (trace : Trace) → IsLawfulTrace trace → (run : Run) (who : Party) → IsShownRun trace run → IsShownRun trace (turn trace run who)
+shown_keeps trace lawful run who is = (shared_turn is.0 who, (turn_shows trace lawful run is.0 who is.1.0, turn_failed trace run is.0 who is.1.0 is.1.1))
+
+-- each try of a call that answered Busy failed
+pub busy_tries_failed : (trace : Trace) → IsGiven trace → EachAnswer (HasFailedAll trace (run_of trace)) (run_of trace).events
+busy_tries_failed trace given =
+    let begins : IsShownRun trace (start trace) = (shared_start trace, (start_shows trace given, record { turns = []; reached = refl; calls = no_calls trace; answers = tt })) in
+    (run_keeps trace (IsShownRun trace) (shown_keeps trace given.can.lawful) (start trace) begins).1.1.answers

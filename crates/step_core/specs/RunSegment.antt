@@ -1,0 +1,162 @@
+-- The segment in the abstract run: a position that never wraps, whether an update is open, and whole records.
+use Rattle.std.specs.Prelude.{ℕ, pos, ◌+◌, ◌-◌, ◌/◌, Bool, true, false, not, ◌&&◌, ◌==◌, if◌then◌else◌, List, [], ◌∷◌, ◌++◌, slice_index, slice_index_or, Result, Ok, Err}
+use Rattle.clock_gate.specs.declared.clock_status.ClockStatus.TheVariants.{Unknown}
+use Rattle.generation_word.specs.declared.layout.Layout.{Layout}
+use Rattle.generation_word.specs.declared.layout.Layout.TheVariants.{Two, Three}
+use Rattle.generation_word.specs.Layout.{period_of}
+use Rattle.generation_word.specs.Numbering.{generation_at}
+use Rattle.generation_word.specs.Header.{header_of}
+use Rattle.segment_layout.specs.declared.image_fault.ImageFault.{ImageFault}
+use Rattle.segment_layout.specs.declared.publication.Publication.{Publication}
+use Rattle.segment_layout.specs.declared.start.Start.{Start}
+use Rattle.segment_layout.specs.declared.start.Start.TheVariants.{Fresh, Kept, Torn}
+use Rattle.segment_layout.specs.Image.{image_of}
+use Rattle.segment_layout.specs.Record.{RecordFields}
+use Rattle.segment_layout.specs.History.{History, AbstractSegment, Begun, number_of, header_seen, start_seen}
+
+-- the words that stood at first; the position before the first entry of the history; the position; whether an update is
+-- open; whether word 1 was stored since the start; the publications whose even number was stored, the newest last; and those
+-- that were begun, the newest first
+pub record SegmentRun : Type 0 where
+  pub layout : Layout
+  pub image : List ℕ
+  pub base : ℕ
+  pub position : ℕ
+  pub is_writing : Bool
+  pub is_headed : Bool
+  pub history : History
+  pub begun : List Begun
+
+abbrev pub abstract_of : SegmentRun → AbstractSegment
+abstract_of segment = record { position = segment.position; is_writing = segment.is_writing }
+
+-- the number that word 1 shows
+abbrev pub number_shown : SegmentRun → ℕ
+number_shown segment = number_of (period_of segment.layout) (abstract_of segment)
+
+-- word 1: the image's, until it is stored
+abbrev pub header_shown : SegmentRun → ℕ
+header_shown segment = if segment.is_headed then header_seen segment.layout (abstract_of segment) else slice_index segment.image 1
+
+-- the even number of a position
+abbrev pub number_at : SegmentRun → ℕ → ℕ
+number_at segment position = generation_at (period_of segment.layout) position
+
+-- what stands where nothing was published
+abbrev pub no_publication : Publication
+no_publication =
+    record {
+      poll = 0;
+      generation = 0;
+      asked = 0;
+      sequence = 0;
+      replied = 0;
+      base = 0;
+      rec = record { as_of = pos 0; void_after = pos 0; bound = pos 0; marker = 0; drift = 0; status = Unknown; support = false };
+    }
+
+-- the publication at a position
+abbrev pub published_at : SegmentRun → ℕ → Publication
+published_at segment position = slice_index_or segment.history (position - segment.base - 1) no_publication
+
+-- ---- how it begins
+
+-- the image's record as a publication: of poll 0, at the first row of the clock and on the start page
+abbrev pub image_publication : ℕ → ℕ → RecordFields → Publication
+image_publication sequence generation rec =
+    record { poll = 0; generation = generation; asked = 1; sequence = sequence; replied = 1; base = 0; rec = rec }
+
+abbrev pub bare_segment : Layout → List ℕ → ℕ → Bool → SegmentRun
+bare_segment layout image position is_writing =
+    record { layout = layout; image = image; base = position; position = position; is_writing = is_writing; is_headed = false; history = []; begun = [] }
+
+abbrev pub kept_segment : Layout → List ℕ → ℕ → Publication → SegmentRun
+kept_segment layout image position publication =
+    record {
+      layout = layout;
+      image = image;
+      base = position - 1;
+      position = position;
+      is_writing = false;
+      is_headed = false;
+      history = publication ∷ [];
+      begun = [];
+    }
+
+abbrev pub segment_by : Layout → List ℕ → ℕ → Result Start ImageFault → SegmentRun
+segment_by layout image sequence (Ok Fresh) = bare_segment layout image 0 false
+segment_by layout image sequence (Ok (Torn generation)) = bare_segment layout image (generation / 2) true
+segment_by layout image sequence (Ok (Kept generation rec)) =
+    kept_segment layout image (generation / 2) (image_publication sequence generation rec)
+segment_by layout image sequence (Err fault) = bare_segment layout image 0 false
+
+-- the segment that an image begins with, where the start page has this sequence count
+abbrev pub segment_start : Layout → List ℕ → ℕ → SegmentRun
+segment_start layout image sequence = segment_by layout image sequence (image_of layout image)
+
+-- ---- an opening
+
+-- the header is still of version 2 in a run of layout 3
+abbrev pub is_old_in : Layout → ℕ → Bool
+is_old_in Two header = false
+is_old_in Three header = (header_of header).1 == 2
+
+abbrev pub is_old : SegmentRun → Bool
+is_old segment = not segment.is_headed && is_old_in segment.layout (slice_index segment.image 1)
+
+-- what an opening finds
+abbrev pub start_found : SegmentRun → Start
+start_found segment =
+    start_seen segment.layout (abstract_of segment) (published_at segment segment.position).rec
+
+-- how many steps an opening takes that finds this
+abbrev pub opening_length : (old : Bool) → Start → ℕ
+opening_length old Fresh = 4
+opening_length old (Torn generation) = if old then 3 else 2
+opening_length old (Kept generation rec) = if old then 12 else 10
+
+-- word 1 is stored, and the segment stays
+abbrev pub headed : SegmentRun → SegmentRun
+headed segment = record segment { is_headed = true }
+
+-- word 1 is stored with an odd number
+abbrev pub opened_update : SegmentRun → SegmentRun
+opened_update segment = record segment { is_headed = true; is_writing = true }
+
+-- word 1 is stored with an even number, which ends a publication
+abbrev pub ended_update : SegmentRun → Publication → SegmentRun
+ended_update segment publication =
+    record segment { position = segment.position + 1; is_writing = false; history = segment.history ++ publication ∷ [] }
+
+-- the move publishes the record at the position once more
+abbrev pub moved_once : SegmentRun → SegmentRun
+moved_once segment = ended_update segment (published_at segment segment.position)
+
+abbrev pub kept_step : (steps : ℕ) → SegmentRun → SegmentRun
+kept_step steps segment =
+    if steps == 10 then opened_update segment else if steps == 11 then moved_once segment else segment
+
+-- the segment after the step of an opening that comes after so many steps of it
+abbrev pub opening_effect : Start → (steps : ℕ) → SegmentRun → SegmentRun
+opening_effect Fresh steps segment = if steps == 3 then headed segment else segment
+opening_effect (Torn generation) steps segment = if steps == 2 then headed segment else segment
+opening_effect (Kept generation rec) steps segment = kept_step steps segment
+
+-- ---- a publication
+
+abbrev pub one_store_more : List Begun → List Begun
+one_store_more [] = []
+one_store_more (begun ∷ older) = record begun { stores = begun.stores + 1 } ∷ older
+
+abbrev pub stored_by : SegmentRun → Publication → (stores : ℕ) → SegmentRun
+stored_by segment publication stores =
+    if stores == 9 then record segment { position = segment.position + 1; is_writing = false; history = segment.history ++ publication ∷ []; begun = one_store_more segment.begun }
+    else record segment { begun = one_store_more segment.begun }
+
+-- the segment after the store of a publication that comes after so many stores of it: the first opens an update, the last
+-- ends it
+abbrev pub stored : SegmentRun → Publication → (stores : ℕ) → SegmentRun
+stored segment publication stores =
+    if stores == 0
+    then record segment { is_headed = true; is_writing = true; begun = record { rec = publication.rec; stores = 1 } ∷ segment.begun }
+    else stored_by segment publication stores
