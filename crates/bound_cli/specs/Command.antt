@@ -4,7 +4,7 @@ use Rattle.std.specs.Prelude.{ℕ, List, [], ◌∷◌, codes, Result, Ok, Err, 
 use Rattle.std.specs.Str.{bytes_eq}
 use Rattle.decode_text.specs.declared.what.What.TheVariants.{Reply, Page, Image}
 use Rattle.bound_cli.specs.declared.command.Command.{Command}
-use Rattle.bound_cli.specs.declared.command.Command.TheVariants.{Replay, Decode}
+use Rattle.bound_cli.specs.declared.command.Command.TheVariants.{Replay, Decode, Pagetime, Agree}
 
 -- no word follows; one that does has this number
 abbrev pub alone : Command → ℕ → List (List ℕ) → Result Command ℕ
@@ -20,10 +20,12 @@ decode_of (what ∷ words) =
     else if bytes_eq what (codes "image") then alone (Decode Image) 3 words
     else Err 2
 
--- `replay`, and those
+-- `replay`, those, `pagetime` and `agree`
 unfoldable pub command_of : List (List ℕ) → Result Command ℕ
 command_of [] = Err 1
 command_of (first ∷ words) =
     if bytes_eq first (codes "replay") then alone Replay 2 words
     else if bytes_eq first (codes "decode") then decode_of words
+    else if bytes_eq first (codes "pagetime") then alone Pagetime 2 words
+    else if bytes_eq first (codes "agree") then alone Agree 2 words
     else Err 1

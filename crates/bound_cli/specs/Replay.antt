@@ -1,54 +1,113 @@
--- What is reported of a trace: one opening, one publication, one answer.
-use Rattle.std.specs.Prelude.{ℕ, List, [], ◌++◌, false, None, Result, Ok, Err}
+-- What is reported of a trace: a line for each event of its run, in the order in which they ended, and their counts.
+use Rattle.std.specs.Prelude.{ℕ, ◌+◌, ◌≤◌, List, [], ◌∷◌, ◌++◌, Result, Ok, Err}
+use Rattle.std.specs.List.{flat_map}
 use Rattle.clock_gate.specs.declared.clock_status.ClockStatus.{ClockStatus}
 use Rattle.clock_gate.specs.declared.clock_status.ClockStatus.TheVariants.{Unknown, Synchronized, FreeRunning, Disrupted}
+use Rattle.clock_gate.specs.declared.trace.Trace.{Trace}
+use Rattle.vmclock_page.specs.Counting.{page_number_of}
+use Rattle.vmclock_page.specs.Host.{count_of}
+use Rattle.interval_now.specs.declared.answers.Answer.{Answer}
+use Rattle.interval_now.specs.declared.answers.Answer.TheVariants as answers
+use Rattle.step_core.specs.declared.event.Event.{Event}
+use Rattle.step_core.specs.declared.event.Event.TheVariants as events
+use Rattle.step_core.specs.Run.{Run}
+use Rattle.step_core.specs.RunWhole.{run_of}
+use Rattle.report_audit.specs.declared.printed.Printed.{Printed}
+use Rattle.report_audit.specs.declared.printed.Printed.TheVariants as lines
+use Rattle.report_audit.specs.Lines.{line_text}
+use Rattle.trace_reader.specs.Grammar.{trace_in}
 use Rattle.trace_reader.specs.declared.trace_error.TraceFault.{TraceFault}
-use Rattle.bound_rule.specs.declared.good.Good.{Good}
-use Rattle.interval_now.specs.declared.answers.Interval.{Interval}
-use Rattle.interval_now.specs.declared.answers.Causality.{Causality}
-use Rattle.interval_now.specs.declared.answers.Timed.{Timed}
-use Rattle.bound_cli.specs.declared.one_poll.OnePoll.{OnePoll}
-use Rattle.bound_cli.specs.declared.report.Totals.{Totals}
-use Rattle.segment_layout.specs.declared.publication.Publication.{Publication}
-use Rattle.interval_now.specs.Interval.{interval_of}
-use Rattle.bound_cli.specs.OnePoll.{◌>>=◌, trace_of}
-use Rattle.segment_layout.specs.Record.{RecordFields}
-use Rattle.bound_cli.specs.Report.{header_line, fresh_line, published_line, time_line, total_line}
+use Rattle.bound_cli.specs.declared.totals.Totals.{Totals}
 
--- the record of a good poll: Synchronized from this poll on, at the default drift of 50,000 ppb, without a page
-abbrev pub record_of : Good → RecordFields
-record_of good = record { as_of = good.as_of; void_after = good.void_after; bound = good.bound; marker = 0; drift = 50000; status = Synchronized; support = false }
+-- the number of the page that an answer saw, among those of the run, where the start page had this sequence count; 0 where it
+-- saw none
+abbrev pub page_of : (start : ℕ) → Answer → ℕ
+page_of start (answers.Time timed) = page_number_of start timed.sequence
+page_of start (answers.Busy tries first last) = 0
+page_of start answers.NotInitialized = 0
+page_of start (answers.PageBusy first last) = 0
+page_of start (answers.Causality causality) = 0
 
--- the first publication, by poll 1 and based on it
-abbrev pub publication_of : OnePoll → Publication
-publication_of t = record { poll = 1; generation = 2; asked = t.asked.row; sequence = 0; replied = t.asked.row; base = 1; rec = record_of t.good }
+-- the line of an event; without a page the counts are 0, and so is the page's number
+abbrev pub printed_of : (start : ℕ) → Event → Printed
+printed_of start (events.Opened poll found) = lines.Opened poll found
+printed_of start (events.Moved poll position generation) = lines.Moved poll position generation
+printed_of start (events.Published position publication marked_at replied_at) =
+    lines.Published position (page_number_of start publication.sequence) publication
+printed_of start (events.Skipped poll first last) = lines.Skipped poll first last
+printed_of start (events.Stopped poll stores) = lines.Stopped poll stores
+printed_of start (events.Answered client call answer trail) = lines.Answered client call (page_of start answer) answer
 
--- what the call makes of that record at the later clock row
-abbrev pub answer_of : OnePoll → Result Interval Causality
-answer_of t = interval_of (record_of t.good) t.later.mono t.later.real None
+-- the lines of these events, one after another
+unfoldable pub lines_of : (start : ℕ) → List Event → List ℕ
+lines_of start events = flat_map (λ event. line_text (printed_of start event)) events
 
-abbrev pub timed_of : OnePoll → Interval → Timed
-timed_of t i = record { generation = 2; row = t.later.row; sequence = 0; interval = i }
+-- ---- the counts
 
--- one publication, one answer, one interval of this status
-abbrev pub totals_of : ClockStatus → Totals
-totals_of Unknown = record { publications = 1; answers = 1; times = 1; unknown = 1; synchronized = 0; free_running = 0; disrupted = 0 }
-totals_of Synchronized = record { publications = 1; answers = 1; times = 1; unknown = 0; synchronized = 1; free_running = 0; disrupted = 0 }
-totals_of FreeRunning = record { publications = 1; answers = 1; times = 1; unknown = 0; synchronized = 0; free_running = 1; disrupted = 0 }
-totals_of Disrupted = record { publications = 1; answers = 1; times = 1; unknown = 0; synchronized = 0; free_running = 0; disrupted = 1 }
+abbrev pub no_totals : Totals
+no_totals = record { publications = 0; answers = 0; times = 0; unknown = 0; synchronized = 0; free_running = 0; disrupted = 0 }
 
--- the lines in the order in which the events ended
-unfoldable pub report_text : OnePoll → Interval → List ℕ
-report_text t i =
-    (((header_line ++ fresh_line 1) ++ published_line 1 0 (publication_of t)) ++ time_line t.client 1 0 (timed_of t i)) ++ total_line (totals_of i.status)
+-- one answer more with an interval, by its status
+abbrev pub timed : Totals → ClockStatus → Totals
+timed t Unknown = record t { answers = t.answers + 1; times = t.times + 1; unknown = t.unknown + 1 }
+timed t Synchronized = record t { answers = t.answers + 1; times = t.times + 1; synchronized = t.synchronized + 1 }
+timed t FreeRunning = record t { answers = t.answers + 1; times = t.times + 1; free_running = t.free_running + 1 }
+timed t Disrupted = record t { answers = t.answers + 1; times = t.times + 1; disrupted = t.disrupted + 1 }
 
--- the report by what the call answers; no such trace has a call before as-of
-abbrev pub report_by : OnePoll → Result Interval Causality → List ℕ
-report_by t (Ok i) = report_text t i
-report_by t (Err c) = []
+abbrev pub answered : Totals → Answer → Totals
+answered t (answers.Time found) = timed t found.interval.status
+answered t (answers.Busy tries first last) = record t { answers = t.answers + 1 }
+answered t answers.NotInitialized = record t { answers = t.answers + 1 }
+answered t (answers.PageBusy first last) = record t { answers = t.answers + 1 }
+answered t (answers.Causality causality) = record t { answers = t.answers + 1 }
+
+-- one event more
+abbrev pub counted : Totals → Event → Totals
+counted t (events.Opened poll found) = t
+counted t (events.Moved poll position generation) = t
+counted t (events.Published position publication marked_at replied_at) = record t { publications = t.publications + 1 }
+counted t (events.Skipped poll first last) = t
+counted t (events.Stopped poll stores) = t
+counted t (events.Answered client call answer trail) = answered t answer
+
+-- these events more
+unfoldable pub counted_all : Totals → List Event → Totals
+counted_all t [] = t
+counted_all t (event ∷ events) = counted_all (counted t event) events
+
+abbrev pub counts_of : Totals → List ℕ
+counts_of t =
+    t.publications ∷ t.answers ∷ t.times ∷ t.unknown ∷ t.synchronized ∷ t.free_running ∷ t.disrupted ∷ []
+
+-- ---- the report
+
+-- the header, a line for each event, and the counts
+unfoldable pub report_text : (start : ℕ) → List Event → List ℕ
+report_text start events =
+    (line_text lines.Header ++ lines_of start events) ++ line_text (lines.Total (counts_of (counted_all no_totals events)))
+
+-- the report of a trace: of the events of its run
+abbrev pub report_of : Trace → List ℕ
+report_of trace = report_text (count_of trace.page) (run_of trace).events
+
+-- what was found goes into the next step; a fault stays the answer
+infixl 10 ◌>>=◌
+abbrev pub ◌>>=◌ : {A B : Type 0} → Result A TraceFault → (A → Result B TraceFault) → Result B TraceFault
+(Ok x) >>= f = f x
+(Err fault) >>= f = Err fault
 
 -- the report of a text, or the fault of its first refused line
 unfoldable pub replay_report : List ℕ → Result (List ℕ) TraceFault
-replay_report bytes = do
-  t ← trace_of bytes
-  Ok (report_by t (answer_of t))
+replay_report bytes = trace_in bytes >>= λ trace. Ok (report_of trace)
+
+-- ---- the counts stay small
+
+-- each count is at most this number
+pub record AreUpTo (most : ℕ) (t : Totals) : Type 0 where
+  pub publications : t.publications ≤ most
+  pub answers : t.answers ≤ most
+  pub times : t.times ≤ most
+  pub unknown : t.unknown ≤ most
+  pub synchronized : t.synchronized ≤ most
+  pub free_running : t.free_running ≤ most
+  pub disrupted : t.disrupted ≤ most

@@ -7,4 +7,8 @@ pub enum Command {
     Replay,
     /// `decode reply`, `decode page`, `decode image`: what hexadecimal text tells.
     Decode(What),
+    /// `pagetime`: the time that pages and readings of their counters tell.
+    Pagetime,
+    /// `agree`: the points on which all but so many clocks agree.
+    Agree,
 }

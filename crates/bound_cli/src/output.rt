@@ -6,8 +6,10 @@ ghost use Rattle.bound_cli.specs.Output.{no_hex, output_of};
 
 use crate::command::Command;
 use crate::replay::replay;
+use agree_text::agree;
 use clock_gate::List;
 use decode_text::{DecodeError, What, decode};
+use pagetime_text::pagetime;
 use std::alloc::Global;
 use trace_reader::{Reason, TraceError, TraceFault};
 
@@ -38,5 +40,7 @@ pub fn output(alloc: Global, command: Command, bytes: &[u8]) -> Result<List<u8>,
     match command {
         Command::Replay => replayed(alloc, bytes),
         Command::Decode(what) => decoded(alloc, what, bytes),
+        Command::Pagetime => pagetime(alloc, bytes),
+        Command::Agree => agree(alloc, bytes),
     }
 }

@@ -1,148 +1,125 @@
-//! The lines of a report, each appended to a text.
-ghost use Rattle.std.specs.Prelude.{◌≡◌, ◌++◌, OnOk};
+//! The report of a run: a line for each of its events, and their counts.
+ghost use Rattle.std.specs.Prelude.{◌≡◌, ◌≤◌, ◌++◌, length, IfOk, OnOk};
 ghost use Rattle.std.specs.String.{string_bytes};
-ghost use Rattle.bound_cli.specs.Report.{header_line, fresh_line, published_place, published_rows, published_bound, published_base, published_line, time_place, time_rows, interval_text, time_line, total_counts, total_statuses, total_line};
+ghost use Rattle.step_core.specs.declared.limits.TheConstants.{MOST_EVENTS};
+ghost use Rattle.vmclock_page.specs.Host.{count_of};
+ghost use Rattle.bound_cli.specs.Replay.{counts_of, lines_of, page_of, printed_of, report_text};
 
-use interval_now::{Interval, Timed};
-use segment_layout::{Publication, Record};
-use std::alloc::AllocError;
+use crate::totals::{Totals, totals_of};
+use interval_now::Answer;
+use report_audit::{Printed, put_line};
+use std::alloc::{AllocError, Global};
+use step_core::Event;
+use vmclock_page::page_number;
 
-/// What a report counts: publications, answers, answers with an interval, and these by their status.
-#[derive(Clone, Copy, Debug, PartialEq, Eq)]
-pub struct Totals {
-    pub publications: u32,
-    pub answers: u32,
-    pub times: u32,
-    pub unknown: u32,
-    pub synchronized: u32,
-    pub free_running: u32,
-    pub disrupted: u32,
+// Room for a line: most are shorter, and a text grows where they aren't.
+const LINE_ROOM: usize = 96;
+
+/// The sequence count of the start page, or 0 without a page.
+pub fn start_count(page: &Option<[u64; 13]>) -> u32
+    ensures { result ≡ count_of page.now }
+{
+    match page {
+        None => 0,
+        Some(words) => (words[1] / 0x1_0000_0000) as u32,
+    }
 }
 
-#[tactic(auto, unfolding(crate::specs::Report::header_line))]
-pub fn header(text: &mut String) -> Result<(), AllocError>
-    ensures { OnOk result (string_bytes text.new ≡ string_bytes text.old ++ header_line) }
+fn page_of(start: u32, answer: &Answer) -> u32
+    ensures { result ≡ page_of start answer.now }
 {
-    text.push_str("clockbound-report,1\n")
+    match answer {
+        Answer::Time(timed) => page_number(start, timed.sequence),
+        Answer::Busy { .. } => 0,
+        Answer::NotInitialized => 0,
+        Answer::PageBusy { .. } => 0,
+        Answer::Causality(_) => 0,
+    }
 }
 
-#[tactic(auto, unfolding(crate::specs::Report::fresh_line))]
-pub fn fresh(text: &mut String, poll: u32) -> Result<(), AllocError>
-    ensures { OnOk result (string_bytes text.new ≡ string_bytes text.old ++ fresh_line poll) }
+fn printed(start: u32, event: &Event) -> Printed
+    ensures { result ≡ printed_of start event.now }
 {
-    write!(text, "open,{poll},fresh,0\n")
+    match event {
+        Event::Opened { poll, start } => Printed::Opened {
+            poll: *poll,
+            start: *start,
+        },
+        Event::Moved {
+            poll,
+            position,
+            generation,
+        } => Printed::Moved {
+            poll: *poll,
+            position: *position,
+            generation: *generation,
+        },
+        Event::Published {
+            position,
+            publication,
+            ..
+        } => Printed::Published {
+            position: *position,
+            page: page_number(start, publication.sequence),
+            publication: *publication,
+        },
+        Event::Skipped { poll, first, last } => Printed::Skipped {
+            poll: *poll,
+            first: *first,
+            last: *last,
+        },
+        Event::Stopped { poll, stores } => Printed::Stopped {
+            poll: *poll,
+            stores: *stores,
+        },
+        Event::Answered {
+            client,
+            call,
+            answer,
+            ..
+        } => Printed::Answered {
+            client: *client,
+            call: *call,
+            page: page_of(start, answer),
+            answer: *answer,
+        },
+    }
 }
 
-#[tactic(auto, unfolding(crate::specs::Report::published_place))]
-fn put_place(text: &mut String, position: u64, p: &Publication) -> Result<(), AllocError>
-    ensures { OnOk result (string_bytes text.new ≡ string_bytes text.old ++ published_place position p.now) }
+fn put_events(text: &mut String, start: u32, events: &[Event]) -> Result<(), AllocError>
+    ensures { OnOk result (string_bytes text.new ≡ string_bytes text.old ++ lines_of start events.now) }
 {
-    let (poll, generation) = (p.poll, p.generation);
-    write!(text, "pub,{position},{poll},{generation},")
+    'events: for event in events {
+        put_line(text, &printed(start, event))?;
+    }
+    Ok(())
 }
 
-#[tactic(auto, unfolding(crate::specs::Report::published_rows))]
-fn put_rows(text: &mut String, page: u32, p: &Publication) -> Result<(), AllocError>
-    ensures { OnOk result (string_bytes text.new ≡ string_bytes text.old ++ published_rows page p.now) }
+fn total(totals: &Totals) -> Printed
+    ensures { result ≡ Printed.Total (counts_of totals.now) }
 {
-    let (asked, replied) = (p.asked, p.replied);
-    write!(text, "{asked},{page},{replied},")
+    Printed::Total {
+        counts: [
+            totals.publications,
+            totals.answers,
+            totals.times,
+            totals.unknown,
+            totals.synchronized,
+            totals.free_running,
+            totals.disrupted,
+        ],
+    }
 }
 
-#[tactic(auto, unfolding(crate::specs::Report::published_bound))]
-fn put_bound(text: &mut String, rec: &Record) -> Result<(), AllocError>
-    ensures { OnOk result (string_bytes text.new ≡ string_bytes text.old ++ published_bound rec.now) }
+/// The report of these events, where the start page had this sequence count.
+#[tactic(auto, unfolding(crate::specs::Replay::report_text))]
+pub fn report(alloc: Global, start: u32, events: &[Event]) -> Result<String, AllocError>
+    requires { length events.now ≤ MOST_EVENTS }
+    ensures { IfOk result (λ text. string_bytes text ≡ report_text start events.now) }
 {
-    let status = rec.status();
-    let (as_of, bound) = (rec.as_of().nanos(), rec.bound());
-    write!(text, "{status},{as_of},{bound},")
-}
-
-#[tactic(auto, unfolding(crate::specs::Report::published_base))]
-fn put_base(text: &mut String, p: &Publication) -> Result<(), AllocError>
-    ensures { OnOk result (string_bytes text.new ≡ string_bytes text.old ++ published_base p.now) }
-{
-    let (marker, base) = (p.rec.marker(), p.base);
-    write!(text, "{marker},{base}\n")
-}
-
-#[tactic(auto, unfolding(crate::specs::Report::published_line))]
-pub fn published(
-    text: &mut String,
-    position: u64,
-    page: u32,
-    p: &Publication,
-) -> Result<(), AllocError>
-    ensures { OnOk result (string_bytes text.new ≡ string_bytes text.old ++ published_line position page p.now) }
-{
-    put_place(text, position, p)?;
-    put_rows(text, page, p)?;
-    put_bound(text, &p.rec)?;
-    put_base(text, p)
-}
-
-#[tactic(auto, unfolding(crate::specs::Report::time_place))]
-fn put_call(text: &mut String, client: u32, call: u32, generation: u32) -> Result<(), AllocError>
-    ensures { OnOk result (string_bytes text.new ≡ string_bytes text.old ++ time_place client call generation) }
-{
-    write!(text, "ans,{client},{call},time,{generation},")
-}
-
-#[tactic(auto, unfolding(crate::specs::Report::time_rows))]
-fn put_row(text: &mut String, row: u32, page: u32) -> Result<(), AllocError>
-    ensures { OnOk result (string_bytes text.new ≡ string_bytes text.old ++ time_rows row page) }
-{
-    write!(text, "{row},{page},")
-}
-
-#[tactic(auto, unfolding(crate::specs::Report::interval_text))]
-fn put_interval(text: &mut String, interval: Interval) -> Result<(), AllocError>
-    ensures { OnOk result (string_bytes text.new ≡ string_bytes text.old ++ interval_text interval) }
-{
-    let status = interval.status;
-    let (earliest, latest) = (interval.earliest, interval.latest);
-    write!(text, "{status},{earliest},{latest}\n")
-}
-
-#[tactic(auto, unfolding(crate::specs::Report::time_line))]
-pub fn time(
-    text: &mut String,
-    client: u32,
-    call: u32,
-    page: u32,
-    timed: &Timed,
-) -> Result<(), AllocError>
-    ensures { OnOk result (string_bytes text.new ≡ string_bytes text.old ++ time_line client call page timed.now) }
-{
-    put_call(text, client, call, timed.generation)?;
-    put_row(text, timed.row, page)?;
-    put_interval(text, timed.interval)
-}
-
-#[tactic(auto, unfolding(crate::specs::Report::total_counts))]
-fn put_counts(text: &mut String, totals: &Totals) -> Result<(), AllocError>
-    ensures { OnOk result (string_bytes text.new ≡ string_bytes text.old ++ total_counts totals.now) }
-{
-    let (publications, answers, times) = (totals.publications, totals.answers, totals.times);
-    write!(text, "total,{publications},{answers},{times},")
-}
-
-#[tactic(auto, unfolding(crate::specs::Report::total_statuses))]
-fn put_statuses(text: &mut String, totals: &Totals) -> Result<(), AllocError>
-    ensures { OnOk result (string_bytes text.new ≡ string_bytes text.old ++ total_statuses totals.now) }
-{
-    let (unknown, synchronized) = (totals.unknown, totals.synchronized);
-    let (free_running, disrupted) = (totals.free_running, totals.disrupted);
-    write!(
-        text,
-        "{unknown},{synchronized},{free_running},{disrupted}\n"
-    )
-}
-
-#[tactic(auto, unfolding(crate::specs::Report::total_line))]
-pub fn total(text: &mut String, totals: &Totals) -> Result<(), AllocError>
-    ensures { OnOk result (string_bytes text.new ≡ string_bytes text.old ++ total_line totals.now) }
-{
-    put_counts(text, totals)?;
-    put_statuses(text, totals)
+    let mut text = String::with_capacity(alloc, LINE_ROOM * (events.len() + 2))?;
+    put_line(&mut text, &Printed::Header)?;
+    put_events(&mut text, start, events)?;
+    put_line(&mut text, &total(&totals_of(events)))?;
+    Ok(text)
 }

@@ -89,18 +89,8 @@ fn replayed(
     Ok((status, sink.bytes().to_vec(alloc)?))
 }
 
-fn kind(line: u32) -> Status {
-    Status::Trace {
-        line,
-        reason: Reason::Kind,
-    }
-}
-
-fn no_hex() -> Status {
-    Status::Trace {
-        line: 1,
-        reason: Reason::Hex,
-    }
+fn refused(line: u32, reason: Reason) -> Status {
+    Status::Trace { line, reason }
 }
 
 #[test]
@@ -179,52 +169,158 @@ fn each_failing_write_leaves_a_front_of_the_report(rt: HostRuntime) -> Result<()
 }
 
 #[test]
-fn the_first_refused_line_is_named(rt: HostRuntime) -> Result<(), Fail> {
+fn the_first_refused_line_is_named_with_its_reason(rt: HostRuntime) -> Result<(), Fail> {
     let alloc = rt.alloc();
-    for (from, to, line, why) in [
+    for (from, to, line, reason) in [
+        (TRACE, "", 1, Reason::Kind),
         (
             "clockbound-trace,1",
             "clockbound-trace,2",
             1,
-            "another version",
+            Reason::Number,
         ),
-        ("clockbound-trace,1\n", "", 1, "no header"),
-        ("clock,1000000000,", "clock,", 2, "a field too few"),
-        ("clock,1000000000,", "clock,-1,", 2, "a sign"),
-        (
-            "clock,1000000000,1700000000000000000",
-            "clock,1,4000000000000000001",
-            2,
-            "a real past the end",
-        ),
-        ("poll,06", "poll,0", 3, "an odd number of digits"),
-        ("poll,06", "poll,05", 3, "a reply of version 5"),
-        ("poll,0602", "pole,0602", 3, "an unknown kind"),
-        ("f7ffffff", "7effffff", 3, "a bound above 2^62"),
-        (
-            "clock,3500000000",
-            "clock,999999999",
-            4,
-            "a clock that goes back",
-        ),
-        ("call,1\n", "", 5, "no call"),
-        ("call,1", "call,65", 5, "client 65"),
-        ("call,1", "call,0", 5, "client 0"),
-        ("call,1\n", "call,1\ncall,1\n", 6, "a sixth record"),
+        ("clockbound-trace,1\n", "", 1, Reason::Order),
+        ("clock,1000000000,", "clock,", 2, Reason::Fields),
+        ("clock,1000000000,", "clock,-1,", 2, Reason::Number),
+        ("poll,06", "poll,0", 3, Reason::Hex),
+        ("poll,0602", "pole,0602", 3, Reason::Kind),
+        ("clock,3500000000", "clock,999999999", 4, Reason::ClockBack),
+        ("call,1", "call,65", 5, Reason::Number),
+        ("call,1", "set,drift,1", 5, Reason::Order),
+        ("call,1", "page,00", 5, Reason::Page),
     ] {
         let text = TRACE.replace(alloc, from, to)?;
         let (status, written) = replayed(alloc, text.as_bytes(), 65_536, &[], 1_000, &[])?;
-        assert_eq!(rt; status, kind(line), "{why}");
-        assert!(rt; written.is_empty(), "{why}");
+        assert_eq!(rt; status, refused(line, reason), "{to}");
+        assert!(rt; written.is_empty(), "{to}");
     }
-    let (status, _) = replayed(alloc, b"", 65_536, &[], 1_000, &[])?;
-    assert_eq!(rt; status, kind(1), "no bytes");
+    Ok(())
+}
+
+// The bytes of a reply with the bound 244,142 ns.
+const REPLY: &str =
+    "06020000002100050000000000000000000000010000000000000000a9fea97ba9fea97b0000000000000000000000000001000000040000000000006500000000000000f7ffffff0000000000000000000000000000000000000000ec800000ea80000000000000";
+
+// What is run: `A` stands for the reply, `I` for an image of layout 2 with generation 65,534.
+#[test]
+fn a_run_is_reported_event_by_event(rt: HostRuntime) -> Result<(), Fail> {
+    let alloc = rt.alloc();
+    let cases = [
+        (
+            "a stop after five stores",
+            "clock,1000000000,1700000000000000000\npoll,A\npoll,A,5\ncall,1\npoll,A\ncall,1\n",
+            "open,1,fresh,0
+pub,1,1,2,1,0,1,synchronized,1000000000,244142,0,1
+stop,2,5
+ans,1,1,busy,10,3,3
+open,3,torn,3
+pub,2,3,4,1,0,1,synchronized,1000000000,244142,0,3
+ans,1,2,time,4,1,0,synchronized,1699999999999755858,1700000000000244142
+total,2,2,1,0,1,0,0
+",
+        ),
+        (
+            "a publication within the only try",
+            "clock,1000000000,1700000000000000000\npoll,A\npoll,A\ncall,1,1\ndo,d,1\nrun,c1,1\ndo,d,1\n",
+            "open,1,fresh,0
+pub,1,1,2,1,0,1,synchronized,1000000000,244142,0,1
+pub,2,2,4,1,0,1,synchronized,1000000000,244142,0,2
+ans,1,1,busy,1,2,4
+total,2,1,0,0,0,0,0
+",
+        ),
+        (
+            "a record moved to layout 3 under a reader",
+            "set,layout,3\nimage,I\nclock,2000000000,1700000001000000000\ncall,1,1\npoll,A\ncall,1\nrun,c1,3\nrun,d,11\ndo,c1,1\n",
+            "ans,1,1,busy,1,65534,65535
+open,1,kept,65534
+moved,1,32768,65536
+pub,32769,1,65538,1,0,1,synchronized,2000000000,244142,0,1
+ans,1,2,time,65538,1,0,synchronized,1700000000999755858,1700000001000244142
+total,1,2,1,0,1,0,0
+",
+        ),
+        (
+            "nothing published",
+            "clock,1000000000,1700000000000000000\ncall,1\n",
+            "ans,1,1,notinit\ntotal,0,1,0,0,0,0,0\n",
+        ),
+    ];
+    for (name, lines, told) in cases {
+        let lines = lines.replace(alloc, "A", REPLY)?;
+        let lines = lines.replace(alloc, "I", IMAGE)?;
+        let text = format!(in alloc; "clockbound-trace,1\n{lines}")?;
+        let report = format!(in alloc; "clockbound-report,1\n{told}")?;
+        let (status, written) = replayed(alloc, text.as_bytes(), 65_536, &[], 1_000, &[])?;
+        assert_eq!(rt; status, Status::Ok, "{name}");
+        assert_eq!(rt; written.as_slice(), report.as_bytes(), "{name}");
+    }
+    Ok(())
+}
+
+#[test]
+fn pages_and_clocks_are_judged(rt: HostRuntime) -> Result<(), Fail> {
+    let alloc = rt.alloc();
+    for (word, text, status, told) in [
+        (
+            "agree",
+            "agree-trace,1\nset,1,1,2\nset,2,3,4\nask,1\n",
+            Status::Ok,
+            "agree-report,1\nagree,2,1,4\n",
+        ),
+        (
+            "agree",
+            "agree-trace,1\nset,1,5,4\n",
+            refused(2, Reason::Number),
+            "",
+        ),
+        (
+            "pagetime",
+            "pagetime-trace,1\n",
+            Status::Ok,
+            "pagetime-report,1\npremises,held\n",
+        ),
+        (
+            "pagetime",
+            "pagetime-trace,1\nread,5\n",
+            refused(2, Reason::Order),
+            "",
+        ),
+    ] {
+        let text = List::from_vec(text.as_bytes().to_vec(alloc)?);
+        let mut source = MemSource::new(text, 7, List::from_vec(Vec::new(alloc)));
+        let Ok(mut sink) = MemSink::new(alloc, 100, 7, List::from_vec(Vec::new(alloc))) else {
+            return Err(Fail::from("there is memory"));
+        };
+        let found = serve(alloc, &words(alloc, &[word])?, &mut source, &mut sink);
+        assert_eq!(rt; found, status, "{word}");
+        assert_eq!(rt; sink.bytes(), told.as_bytes(), "{word}");
+    }
+    Ok(())
+}
+
+// 2.5 s at 1,000,000 ppb are 2,500,000 ns, where 50,000 ppb are 125,000.
+#[test]
+fn the_drift_of_a_trace_is_its_own(rt: HostRuntime) -> Result<(), Fail> {
+    let alloc = rt.alloc();
+    let text = TRACE.replace(alloc, "trace,1\n", "trace,1\nset,drift,1000000\n")?;
+    let (status, written) = replayed(alloc, text.as_bytes(), 65_536, &[], 1_000, &[])?;
+    let report = REPORT.replace(
+        alloc,
+        "1700000002499630858,1700000002500369142",
+        "1700000002497255858,1700000002502744142",
+    )?;
+    assert_eq!(rt; status, Status::Ok);
+    assert_eq!(rt; written.as_slice(), report.as_bytes());
     Ok(())
 }
 
 #[test]
 fn the_input_ends_at_its_limit(rt: HostRuntime) -> Result<(), Fail> {
-    for (len, want) in [(16_777_216, kind(1)), (16_777_217, Status::TooLong)] {
+    for (len, want) in [
+        (16_777_216, refused(1, Reason::Kind)),
+        (16_777_217, Status::TooLong),
+    ] {
         let alloc = rt.alloc();
         let feeds = vec![in alloc; b'\n'; len]?;
         let (status, written) = replayed(alloc, &feeds, 65_536, &[], 10, &[])?;
@@ -247,9 +343,9 @@ fn a_message_is_decoded(rt: HostRuntime) -> Result<(), Fail> {
             Status::Ok,
             "image,kept,65534,1000000000,1001000000000,244142,0,50000,synchronized,0\n",
         ),
-        ("reply", "060", no_hex(), ""),
-        ("image", "", no_hex(), ""),
-        ("page", "0g", no_hex(), ""),
+        ("reply", "060", refused(1, Reason::Hex), ""),
+        ("image", "", refused(1, Reason::Hex), ""),
+        ("page", "0g", refused(1, Reason::Hex), ""),
     ] {
         let digits = List::from_vec(digits.as_bytes().to_vec(alloc)?);
         let none = List::from_vec(Vec::new(alloc));
@@ -282,6 +378,8 @@ fn the_first_refused_word_is_named(rt: HostRuntime) -> Result<(), Fail> {
         (["decode"].as_slice(), 2),
         (["decode", "record"].as_slice(), 2),
         (["decode", "reply", "page"].as_slice(), 3),
+        (["pagetime", "x"].as_slice(), 2),
+        (["agree", "x"].as_slice(), 2),
     ] {
         let none = List::from_vec(Vec::new(alloc));
         let mut source = MemSource::new(List::from_vec(Vec::new(alloc)), 1, none);

@@ -17,9 +17,9 @@ use trace_reader::TraceError;
 /// Does what the words of a command line say: reads the source to its end, makes the whole output in memory, and
 /// writes it into the sink. It never waits and always returns.
 ///
-/// `words` are those after the program's own name: `replay`, or `decode` and one of `reply`, `page` and `image`. Refusals come
-/// in the order of the work: `Usage`, then `Read` and `TooLong`, then `Trace`, then `Write`; `Memory` can come at any place before the
-/// first byte is written.
+/// `words` are those after the program's own name: `replay`, `pagetime`, `agree`, or `decode` and one of `reply`, `page` and
+/// `image`. Refusals come in the order of the work: `Usage`, then `Read` and `TooLong`, then `Trace`, then `Write`; `Memory` can
+/// come at any place before the first byte is written.
 pub fn serve<S: Source, K: Sink>(
     alloc: Global,
     words: &Vec<String>,

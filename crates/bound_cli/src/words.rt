@@ -50,6 +50,12 @@ pub fn command_named(words: &[String]) -> Result<Command, u32>
             if first.as_str() == "decode" {
                 return decode_named(others);
             }
+            if first.as_str() == "pagetime" {
+                return alone(Command::Pagetime, 2, others);
+            }
+            if first.as_str() == "agree" {
+                return alone(Command::Agree, 2, others);
+            }
             Err(1)
         }
     }
