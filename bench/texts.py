@@ -1,0 +1,68 @@
+#!/usr/bin/env python3
+"""texts.py NAME: a text for a measure, on standard output: `reads`, 299,999 readings of one page; `spans`, 299,000 changes of the spans
+of 1,000 servers with 1,000 questions among them; `turns`, 50,000,000 turns of two clients whose calls meet an update that never ends;
+`lines`, 49,999,950 turns in 999,999 lines, most of them of parties without a job; `calls`, 100,000 polls and 300,000 calls."""
+import pathlib
+import random
+import sys
+
+TOP = pathlib.Path(__file__).resolve().parent.parent
+REPLY = (TOP / "examples" / "steady-reply.hex").read_text().strip()
+PAGE = (TOP / "examples" / "page-reads.txt").read_text().splitlines()[1].split(",")[1]
+
+
+def reads():
+    yield "pagetime-trace,1"
+    yield f"page,{PAGE}"
+    for k in range(299_999):
+        yield f"read,{1000 * k}"
+
+
+def spans():
+    draw = random.Random(1)
+    yield "agree-trace,1"
+    for k in range(299_000):
+        server, earliest = draw.randint(1, 1000), draw.randint(0, 10**12)
+        yield f"drop,{server}" if draw.random() < 0.1 else f"set,{server},{earliest},{earliest + draw.randint(0, 10**11)}"
+        if k % 299 == 298:
+            yield f"ask,{draw.randint(0, 400)},{draw.randint(0, 10**12)}"
+
+
+def turns():
+    yield "clockbound-trace,1"
+    yield "set,tries,1000"
+    for k in range(1, 11):
+        yield f"clock,{10**12 + k * 10**9},{1700000000 * 10**9 + k * 10**9}"
+    yield f"poll,{REPLY}"
+    yield f"poll,{REPLY},3"
+    yield "do,d,2"
+    for k in range(50_000):
+        yield f"call,{k % 2 + 1}"
+    for _ in range(50):
+        yield "run,c1,500000"
+        yield "run,c2,500000"
+
+
+def calls():
+    yield "clockbound-trace,1"
+    yield f"clock,{10**12},{1700000000 * 10**9}"
+    for k in range(100_000):
+        yield f"poll,{REPLY if k % 10 == 0 else ''}"
+        for client in range(1, 4):
+            yield f"call,{client}"
+
+
+def lines():
+    yield "clockbound-trace,1"
+    yield f"clock,{10**12},{1700000000 * 10**9}"
+    yield f"poll,{REPLY}"
+    for k in range(999_999):
+        yield f"run,{'d' if k % 2 else 'c1'},50"
+
+
+def main():
+    for line in {"reads": reads, "spans": spans, "turns": turns, "calls": calls, "lines": lines}[sys.argv[1]]():
+        print(line)
+
+
+main()
