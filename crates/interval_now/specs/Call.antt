@@ -85,6 +85,41 @@ stage_given clock tries support (Clock generation rec) row = after_clock tries s
 stage_given clock tries support (Page generation rec reading read) value = after_page generation rec reading (page.given read value) (page.end_of (page.given read value))
 stage_given clock tries support (Done answer) value = Done answer
 
+-- the tries in hand with one value more
+abbrev pub tried : Stage → ℕ → Stage
+tried (Segment read) value = Segment (segment.given read value)
+tried (Clock generation rec) value = Clock generation rec
+tried (Page generation rec reading read) value = Page generation rec reading (page.given read value)
+tried (Done answer) value = Done answer
+
+-- what follows on tries by what they have come to, and on the clock
+abbrev pub followed : List ClockRow → ℕ → Bool → Stage → ℕ → Stage
+followed clock tries support (Segment read) value = after_segment read (segment.end_of read)
+followed clock tries support (Clock generation rec) row = after_clock tries support generation rec (reading_at clock row)
+followed clock tries support (Page generation rec reading read) value = after_page generation rec reading read (page.end_of read)
+followed clock tries support (Done answer) value = Done answer
+
+-- tries in hand that want another load
+abbrev pub TriesOn : Stage → Type 0
+TriesOn (Segment read) = segment.act_of read ≢ End
+TriesOn (Clock generation rec) = ⊥
+TriesOn (Page generation rec reading read) = page.act_of read ≢ End
+TriesOn (Done answer) = ⊥
+
+-- tries that want no load, or none in hand
+abbrev pub HasEnded : Stage → Type 0
+HasEnded (Segment read) = segment.act_of read ≡ End
+HasEnded (Clock generation rec) = Unit {0}
+HasEnded (Page generation rec reading read) = page.act_of read ≡ End
+HasEnded (Done answer) = Unit {0}
+
+-- a value that is the number of a row of this clock, where the clock was loaded
+abbrev pub IsRowAt : List ClockRow → Stage → ℕ → Type 0
+IsRowAt clock (Segment read) value = Unit {0}
+IsRowAt clock (Clock generation rec) value = (1 ≤ value) × (value ≤ length clock)
+IsRowAt clock (Page generation rec reading read) value = Unit {0}
+IsRowAt clock (Done answer) value = Unit {0}
+
 abbrev pub given : List ClockRow → Call → ℕ → Call
 given clock call value = record call { stage = stage_given clock call.tries call.support call.stage value }
 

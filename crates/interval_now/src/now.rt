@@ -1,13 +1,13 @@
 //! A client call, as a step machine.
-ghost use Rattle.std.specs.Prelude.{◌≡◌, ◌≢◌, ◌≤◌, ◌<◌, ◌+◌, ◌*◌, length, IsNone, Some, None, ◌↔◌};
+ghost use Rattle.std.specs.Prelude.{◌≡◌, ◌≢◌, ◌≤◌, ◌<◌, ◌+◌, ◌*◌, length, IsNone, IsTrue, IsFalse, Some, None, ◌↔◌};
 ghost use Rattle.clock_gate.specs.declared.limits.TheConstants.{LAST_MOMENT, MOST_TRIES, MOST_HOST_ROWS};
 ghost use Rattle.clock_gate.specs.Acts.{IsLoadWithin};
 ghost use Rattle.clock_gate.specs.ClockRow.{IsClock};
-ghost use Rattle.clock_gate.specs.Tries.{IsStage as CanStand};
+ghost use Rattle.clock_gate.specs.Tries.{SeqlockRead};
 ghost use Rattle.shm_reader.specs.SegmentTries.{IsGoodLoad};
 ghost use Rattle.shm_reader.specs.SegmentTries as segment;
 ghost use Rattle.vmclock_page.specs.PageRead as page;
-ghost use Rattle.interval_now.specs.Call.{started_call, timed, answer_of, act_of, act_at, end_of, given, after_segment, after_clock, after_page, stage_given, steps_left, IsStage, IsEarly, IsRowNumber};
+ghost use Rattle.interval_now.specs.Call.{started_call, timed, answer_of, act_of, act_at, end_of, given, after_segment, after_clock, after_page, stage_given, tried, followed, steps_left, IsEarly, IsRowNumber, IsRowAt, TriesOn, HasEnded};
 
 use crate::answers::{Answer, Causality, Interval, Timed};
 use crate::rule::interval;
@@ -16,7 +16,6 @@ use clock_gate::{Act, ClockRow, Reading, reading};
 use segment_layout::Record;
 use shm_reader::{Seen, SegmentReader};
 use std::marker::Model;
-use std::mem;
 use vmclock_page::{PageReader, PageSeen};
 
 /// The shared word that counts the clock rows done.
@@ -78,112 +77,158 @@ fn answer_of(
     )
 }
 
-// One value more for the segment's tries, and what follows where they have come to something.
-fn read_segment(mut reader: SegmentReader, value: u64) -> Stage
-    requires open { segment.act_of reader ≢ Act.End }
-    requires good { IsGoodLoad (segment.act_of reader) value }
-    ensures { result ≡ after_segment (segment.given reader value) (segment.end_of (segment.given reader value)) }
+// What follows on what the segment's tries have come to.
+fn after_segment(seen: &Seen) -> Stage
+    ensures { (read : SeqlockRead) → result ≡ after_segment read (Some seen.now) }
 {
-    reader.give(value);
-    let seen = reader.end();
-    after_segment(reader, seen)
-}
-
-fn after_segment(reader: SegmentReader, seen: Option<Seen>) -> Stage
-    ensures { result ≡ after_segment reader seen }
-{
-    match &seen {
-        None => Stage::Segment(reader),
-        Some(Seen::Whole { generation, rec }) => Stage::Clock {
+    match seen {
+        Seen::Whole { generation, rec } => Stage::Clock {
             generation: *generation,
             rec: *rec,
         },
-        Some(Seen::Busy { tries, first, last }) => Stage::Done(Answer::Busy {
+        Seen::Busy { tries, first, last } => Stage::Done(Answer::Busy {
             tries: *tries,
             first: *first,
             last: *last,
         }),
-        Some(Seen::NotInitialized) => Stage::Done(Answer::NotInitialized),
+        Seen::NotInitialized => Stage::Done(Answer::NotInitialized),
     }
 }
 
-// The clock's row, and what follows: the page's tries where there is a page.
-fn read_clock(tries: u16, support: bool, generation: u32, rec: Record, reading: Reading) -> Stage
+// What follows on the clock: the page's tries where there is a page.
+fn after_clock(tries: u16, support: bool, generation: u32, rec: &Record, reading: Reading) -> Stage
     requires some { 0 < tries }
     requires most { tries ≤ MOST_TRIES }
     requires mono { reading.mono ≤ LAST_MOMENT }
     requires real { reading.real ≤ LAST_MOMENT }
-    ensures { result ≡ after_clock tries support generation rec reading }
+    ensures { result ≡ after_clock tries support generation rec.now reading }
 {
     if support {
         Stage::Page {
             generation,
-            rec,
+            rec: *rec,
             reading,
             reader: PageReader::new(tries),
         }
     } else {
-        Stage::Done(answer_of(generation, &rec, reading, None, 0))
+        Stage::Done(answer_of(generation, rec, reading, None, 0))
     }
 }
 
-// One value more for the page's tries, and what follows where they have come to something.
-fn read_page(
-    generation: u32,
-    rec: Record,
-    reading: Reading,
-    mut reader: PageReader,
-    value: u64,
-) -> Stage
-    requires open { page.act_of reader ≢ Act.End }
+// What follows on what the page's tries have come to.
+fn after_page(generation: u32, rec: &Record, reading: Reading, seen: PageSeen) -> Stage
     requires mono { reading.mono ≤ LAST_MOMENT }
     requires real { reading.real ≤ LAST_MOMENT }
-    ensures { result ≡ after_page generation rec reading (page.given reader value) (page.end_of (page.given reader value)) }
+    ensures { (read : SeqlockRead) → result ≡ after_page generation rec.now reading read (Some seen) }
 {
-    reader.give(value);
-    match reader.end() {
-        None => Stage::Page {
+    match seen {
+        PageSeen::Marker { marker, sequence } => Stage::Done(answer_of(
             generation,
             rec,
-            reading,
-            reader,
-        },
-        Some(PageSeen::Marker { marker, sequence }) => Stage::Done(answer_of(
-            generation,
-            &rec,
             reading,
             Some(marker),
             sequence,
         )),
-        Some(PageSeen::Busy { first, last }) => Stage::Done(Answer::PageBusy { first, last }),
+        PageSeen::Busy { first, last } => Stage::Done(Answer::PageBusy { first, last }),
     }
 }
 
-// The stage after one more value.
-fn stage_after(stage: Stage, tries: u16, support: bool, value: u64, clock: &[ClockRow]) -> Stage
-    requires stage { IsStage stage }
-    requires early { IsEarly stage }
-    requires open { act_at stage ≢ Act.End }
-    requires some { 0 < tries }
-    requires most { tries ≤ MOST_TRIES }
-    requires good { IsGoodLoad (act_at stage) value }
-    requires row { IsRowNumber clock.now (act_at stage) value }
-    requires rows { length clock.now ≤ MOST_HOST_ROWS }
-    requires moments { IsClock clock.now }
-    ensures { result ≡ stage_given clock.now tries support stage value }
+// The tries in hand take one value more. Whether they go on.
+fn try_on(stage: &mut Stage, value: u64) -> bool
+    requires open { act_at stage.old ≢ Act.End }
+    requires good { IsGoodLoad (act_at stage.old) value }
+    ensures tried { stage.new ≡ tried stage.old value }
+    ensures on { IsTrue result → TriesOn stage.new }
+    ensures ended { IsFalse result → HasEnded stage.new }
 {
     match stage {
-        Stage::Segment(reader) => read_segment(reader, value),
+        Stage::Segment(reader) => {
+            reader.give(value);
+            reader.next() != Act::End
+        }
+        Stage::Page { reader, .. } => {
+            reader.give(value);
+            reader.next() != Act::End
+        }
+        Stage::Clock { .. } | Stage::Done(_) => false,
+    }
+}
+
+// What follows on the tries that have come to something, and on the clock.
+fn follow(stage: &Stage, tries: u16, support: bool, value: u64, clock: &[ClockRow]) -> Stage
+    requires ended { HasEnded stage.now }
+    requires early { IsEarly stage.now }
+    requires some { 0 < tries }
+    requires most { tries ≤ MOST_TRIES }
+    requires row { IsRowAt clock.now stage.now value }
+    requires rows { length clock.now ≤ MOST_HOST_ROWS }
+    requires moments { IsClock clock.now }
+    ensures { result ≡ followed clock.now tries support stage.now value }
+{
+    match stage {
+        Stage::Segment(reader) => follow_segment(reader),
         Stage::Clock { generation, rec } => {
-            read_clock(tries, support, generation, rec, reading(clock, value))
+            after_clock(tries, support, *generation, rec, reading(clock, value))
         }
         Stage::Page {
             generation,
             rec,
             reading,
             reader,
-        } => read_page(generation, rec, reading, reader, value),
-        Stage::Done(answer) => Stage::Done(answer),
+        } => follow_page(*generation, rec, *reading, reader),
+        Stage::Done(answer) => Stage::Done(*answer),
+    }
+}
+
+fn follow_segment(reader: &SegmentReader) -> Stage
+    requires { segment.act_of reader.now ≡ Act.End }
+    ensures { result ≡ after_segment reader.now (segment.end_of reader.now) }
+{
+    match reader.end() {
+        None => unreachable!(),
+        Some(seen) => after_segment(&seen),
+    }
+}
+
+fn follow_page(generation: u32, rec: &Record, reading: Reading, reader: &PageReader) -> Stage
+    requires ended { page.act_of reader.now ≡ Act.End }
+    requires mono { reading.mono ≤ LAST_MOMENT }
+    requires real { reading.real ≤ LAST_MOMENT }
+    ensures { result ≡ after_page generation rec.now reading reader.now (page.end_of reader.now) }
+{
+    match reader.end() {
+        None => unreachable!(),
+        Some(seen) => after_page(generation, rec, reading, seen),
+    }
+}
+
+fn go_on(stage: &mut Stage, tries: u16, support: bool, value: u64, clock: &[ClockRow])
+    requires ended { HasEnded stage.old }
+    requires early { IsEarly stage.old }
+    requires some { 0 < tries }
+    requires most { tries ≤ MOST_TRIES }
+    requires row { IsRowAt clock.now stage.old value }
+    requires rows { length clock.now ≤ MOST_HOST_ROWS }
+    requires moments { IsClock clock.now }
+    ensures { stage.new ≡ followed clock.now tries support stage.old value }
+{
+    *stage = follow(stage, tries, support, value, clock);
+}
+
+// The stage takes one more value. What is large is made only where tries have ended.
+fn give_stage(stage: &mut Stage, tries: u16, support: bool, value: u64, clock: &[ClockRow])
+    requires early { IsEarly stage.old }
+    requires open { act_at stage.old ≢ Act.End }
+    requires some { 0 < tries }
+    requires most { tries ≤ MOST_TRIES }
+    requires good { IsGoodLoad (act_at stage.old) value }
+    requires row { IsRowNumber clock.now (act_at stage.old) value }
+    requires rows { length clock.now ≤ MOST_HOST_ROWS }
+    requires moments { IsClock clock.now }
+    ensures { stage.new ≡ stage_given clock.now tries support stage.old value }
+{
+    if !try_on(stage, value) {
+        go_on(stage, tries, support, value, clock);
     }
 }
 
@@ -225,8 +270,7 @@ impl NowMachine {
         ensures value { self.new ≡ given clock.now self.old value }
         ensures nearer { steps_left self.new < steps_left self.old }
     {
-        let stage = mem::replace(&mut self.stage, Stage::Done(Answer::NotInitialized));
-        self.stage = stage_after(stage, self.tries, self.support, value, clock);
+        give_stage(&mut self.stage, self.tries, self.support, value, clock);
     }
 
     /// What the call has come to: `None` exactly while a load comes next.
