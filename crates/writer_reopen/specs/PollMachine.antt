@@ -96,6 +96,13 @@ pub record IsUpdate (order : Order) (taken : Taken) (update : Publishing) : Type
   pub most : update.made ≤ MOST_STORES
   pub until : IfSome order.stop (λ stop. update.made ≤ stop)
 
+-- no store was made yet
+abbrev pub IsBeforeStores : Stage → Type 0
+IsBeforeStores Asking = Unit {0}
+IsBeforeStores (Looking asked read) = Unit {0}
+IsBeforeStores (Taking asked seen) = Unit {0}
+IsBeforeStores (Storing taken update) = ⊥
+
 -- where a poll can stand
 abbrev pub IsPollStage : Order → Stage → Type 0
 IsPollStage order Asking = Unit {0}

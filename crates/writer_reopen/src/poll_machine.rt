@@ -12,7 +12,7 @@ ghost use Rattle.writer_reopen.specs.PollMachine.{new_polling, polling_act, poll
 use crate::order::Order;
 use crate::polled::Polled;
 use crate::stage::{CLOCK_WORD, Stage};
-use crate::steps::{reading_at, stage_asked, stage_looked, stage_stored, stage_taken};
+use crate::steps::give_stage;
 use crate::storing::{storing_act, storing_end};
 use clock_gate::{Act, ClockRow};
 use generation_word::Layout;
@@ -103,14 +103,8 @@ impl PollMachine {
         ensures given { self.new ≡ polling_given clock.now self.old value }
         ensures nearer { stage_steps self.new.order self.new.stage < stage_steps self.old.order self.old.stage }
     {
-        let order = self.order;
-        let stage = self.stage;
-        self.stage = match stage {
-            Stage::Asking => stage_asked(&order, reading_at(clock, value)),
-            Stage::Looking(asked, reader) => stage_looked(&order, asked, reader, value),
-            Stage::Taking(asked, seen) => stage_taken(&order, asked, seen, value as u32),
-            Stage::Storing(taken, publisher) => stage_stored(&order, taken, publisher, value),
-        };
+        let PollMachine { order, stage } = self;
+        give_stage(order, stage, value, clock);
     }
 
     /// What it came to. `None` exactly while `next` isn't `End`.

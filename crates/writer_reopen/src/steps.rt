@@ -1,14 +1,14 @@
 //! What one more value makes of each stage of a poll.
 ghost use Rattle.std.specs.Prelude.{◌≡◌, ◌≢◌, ◌≤◌, ◌<◌, ◌+◌, ◌-◌, ◌*◌, true, length, is_some, IfSome};
-ghost use Rattle.clock_gate.specs.declared.act.Act.TheVariants.{End};
+ghost use Rattle.clock_gate.specs.declared.act.Act.TheVariants.{Load, End};
 ghost use Rattle.clock_gate.specs.declared.limits.TheConstants.{LAST_MOMENT, MOST_STORES};
 ghost use Rattle.clock_gate.specs.Tries.{IsStage, steps_left};
 ghost use Rattle.vmclock_page.specs.PageRead.{page_lock, act_of, given, end_of};
 ghost use Rattle.shm_writer.specs.Publisher.{publishing_given};
-ghost use Rattle.writer_reopen.specs.declared.stage.Stage.TheVariants.{Storing};
+ghost use Rattle.writer_reopen.specs.declared.stage.TheConstants.{CLOCK_WORD};
 ghost use Rattle.writer_reopen.specs.Progress.{act_of as wanted_act};
 ghost use Rattle.writer_reopen.specs.Poll.{AreRows, reading_at, base_number, marker_seen, sequence_seen, poll_for, taken_for, storing_of};
-ghost use Rattle.writer_reopen.specs.PollMachine.{stage_asked, stage_looked, stage_taken, IsUpdate, IsPollStage, stage_steps, DaemonFits, OrderFits, StageFits};
+ghost use Rattle.writer_reopen.specs.PollMachine.{stage_asked, stage_looked, stage_taken, stage_given, stage_progress, IsBeforeStores, IsUpdate, IsPollStage, stage_steps, DaemonFits, OrderFits, StageFits};
 
 use crate::order::Order;
 use crate::stage::{Sight, Stage, Taken};
@@ -18,7 +18,7 @@ use shm_writer::Publisher;
 use status_machine::{Base, Poll};
 use vmclock_page::{PageReader, PageSeen};
 
-pub(crate) fn reading_at(clock: &[ClockRow], row: u64) -> Reading
+fn reading_at(clock: &[ClockRow], row: u64) -> Reading
     requires rows { AreRows clock.now }
     requires first { 1 ≤ row }
     requires last { row ≤ length clock.now }
@@ -29,7 +29,7 @@ pub(crate) fn reading_at(clock: &[ClockRow], row: u64) -> Reading
 }
 
 // The first reading: with support the page is looked at.
-pub(crate) fn stage_asked(order: &Order, asked: Reading) -> Stage
+fn stage_asked(order: &Order, asked: Reading) -> Stage
     requires fits { OrderFits order.now }
     requires moment { asked.mono ≤ LAST_MOMENT }
     ensures value { result ≡ stage_asked order.now asked }
@@ -44,7 +44,7 @@ pub(crate) fn stage_asked(order: &Order, asked: Reading) -> Stage
 }
 
 // One more word of the page.
-pub(crate) fn stage_looked(order: &Order, asked: Reading, reader: PageReader, value: u64) -> Stage
+fn stage_looked(order: &Order, asked: Reading, reader: PageReader, value: u64) -> Stage
     requires support { order.now.daemon.support ≡ true }
     requires moment { asked.mono ≤ LAST_MOMENT }
     requires wants { act_of reader ≢ End }
@@ -64,7 +64,7 @@ pub(crate) fn stage_looked(order: &Order, asked: Reading, reader: PageReader, va
 }
 
 // The reply is taken, at this clock row.
-pub(crate) fn stage_taken(order: &Order, asked: Reading, seen: Option<Sight>, replied: u32) -> Stage
+fn stage_taken(order: &Order, asked: Reading, seen: Option<Sight>, replied: u32) -> Stage
     requires fits { OrderFits order.now }
     requires moment { asked.mono ≤ LAST_MOMENT }
     requires support { is_some seen ≡ order.now.daemon.support }
@@ -95,18 +95,76 @@ pub(crate) fn stage_taken(order: &Order, asked: Reading, seen: Option<Sight>, re
 }
 
 // One more store was made.
-pub(crate) fn stage_stored(order: &Order, taken: Taken, publisher: Publisher, value: u64) -> Stage
-    requires daemon { DaemonFits taken.daemon }
-    requires update { IsUpdate order.now taken publisher }
-    requires wants { wanted_act (storing_of order.now taken publisher.made) ≢ End }
-    ensures value { result ≡ Storing taken (publishing_given publisher value) }
+fn store(order: &Order, taken: &Taken, publisher: &mut Publisher, value: u64)
+    requires update { IsUpdate order.now taken.now publisher.old }
+    requires wants { wanted_act (storing_of order.now taken.now publisher.old.made) ≢ End }
+    ensures value { publisher.new ≡ publishing_given publisher.old value }
+    ensures update { IsUpdate order.now taken.now publisher.new }
+    ensures nearer { MOST_STORES - publisher.new.made < MOST_STORES - publisher.old.made }
+{
+    publisher.give(value);
+}
+
+// What one more value makes of a stage before the stores.
+fn stage_after(order: &Order, stage: &Stage, value: u64, clock: &[ClockRow]) -> Stage
+    requires early { IsBeforeStores stage.now }
+    requires order { OrderFits order.now }
+    requires stage { IsPollStage order.now stage.now }
+    requires stage_fits { StageFits stage.now }
+    requires asked { wanted_act (stage_progress order.now stage.now) ≢ End }
+    requires rows { AreRows clock.now }
+    requires first { wanted_act (stage_progress order.now stage.now) ≡ Load CLOCK_WORD → 1 ≤ value }
+    requires last { wanted_act (stage_progress order.now stage.now) ≡ Load CLOCK_WORD → value ≤ length clock.now }
+    ensures value { result ≡ stage_given clock.now order.now stage.now value }
     ensures stage { IsPollStage order.now result }
     ensures fits { StageFits result }
-    ensures nearer { stage_steps order.now result < MOST_STORES - publisher.made }
+    ensures nearer { stage_steps order.now result < stage_steps order.now stage.now }
 {
-    let mut publisher = publisher;
-    publisher.give(value);
-    Stage::Storing(taken, publisher)
+    match stage {
+        Stage::Asking => stage_asked(order, reading_at(clock, value)),
+        Stage::Looking(asked, reader) => stage_looked(order, *asked, *reader, value),
+        Stage::Taking(asked, seen) => stage_taken(order, *asked, *seen, value as u32),
+        Stage::Storing(_, _) => unreachable!(),
+    }
+}
+
+fn go_on(order: &Order, stage: &mut Stage, value: u64, clock: &[ClockRow])
+    requires early { IsBeforeStores stage.old }
+    requires order { OrderFits order.now }
+    requires stage { IsPollStage order.now stage.old }
+    requires stage_fits { StageFits stage.old }
+    requires asked { wanted_act (stage_progress order.now stage.old) ≢ End }
+    requires rows { AreRows clock.now }
+    requires first { wanted_act (stage_progress order.now stage.old) ≡ Load CLOCK_WORD → 1 ≤ value }
+    requires last { wanted_act (stage_progress order.now stage.old) ≡ Load CLOCK_WORD → value ≤ length clock.now }
+    ensures value { stage.new ≡ stage_given clock.now order.now stage.old value }
+    ensures stage { IsPollStage order.now stage.new }
+    ensures fits { StageFits stage.new }
+    ensures nearer { stage_steps order.now stage.new < stage_steps order.now stage.old }
+{
+    *stage = stage_after(order, stage, value, clock);
+}
+
+// The stage takes one more value: a store changes its count alone, and what is large is made only where a stage ends.
+pub(crate) fn give_stage(order: &Order, stage: &mut Stage, value: u64, clock: &[ClockRow])
+    requires order { OrderFits order.now }
+    requires stage { IsPollStage order.now stage.old }
+    requires stage_fits { StageFits stage.old }
+    requires asked { wanted_act (stage_progress order.now stage.old) ≢ End }
+    requires rows { AreRows clock.now }
+    requires first { wanted_act (stage_progress order.now stage.old) ≡ Load CLOCK_WORD → 1 ≤ value }
+    requires last { wanted_act (stage_progress order.now stage.old) ≡ Load CLOCK_WORD → value ≤ length clock.now }
+    ensures value { stage.new ≡ stage_given clock.now order.now stage.old value }
+    ensures stage { IsPollStage order.now stage.new }
+    ensures fits { StageFits stage.new }
+    ensures nearer { stage_steps order.now stage.new < stage_steps order.now stage.old }
+{
+    match stage {
+        Stage::Storing(taken, publisher) => store(order, taken, publisher, value),
+        Stage::Asking | Stage::Looking(_, _) | Stage::Taking(_, _) => {
+            go_on(order, stage, value, clock);
+        }
+    }
 }
 
 fn poll_for(order: &Order, asked: Reading, seen: Option<Sight>) -> Poll
