@@ -28,6 +28,7 @@ pub mod CallFloor
 pub mod RunKeeps
 pub mod NeverFall
 pub mod DaemonFits
+pub mod DaemonGiven
 pub mod DaemonLeaves
 pub mod DaemonStore
 pub mod DaemonStoring
@@ -49,6 +50,7 @@ mod Host
 mod Turns
 mod Starts
 mod Schedules
+mod Idle
 pub mod RunFactsPast
 pub mod RunFactsDaemon
 pub mod RunFactsClient

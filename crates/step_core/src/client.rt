@@ -1,16 +1,15 @@
-ghost use Rattle.std.specs.Prelude.{◌≡◌, ◌≤◌, [], ◌∷◌, length, All, None, IfOk, is_some};
-ghost use Rattle.clock_gate.specs.Acts.{IsWithin};
+ghost use Rattle.std.specs.Prelude.{◌≡◌, ◌≤◌, ◌↔◌, length, All, None, IfOk, IsTrue, is_some};
 ghost use Rattle.clock_gate.specs.ClockRow.{IsClock};
-ghost use Rattle.clock_gate.specs.declared.act.Act.TheVariants.{End};
 ghost use Rattle.clock_gate.specs.declared.limits.TheConstants.{MOST_CALLS, MOST_HOST_ROWS};
 ghost use Rattle.clock_gate.specs.Trace.{IsCallRow};
-ghost use Rattle.step_core.specs.SharedClient.{tries_of, client_start, client_ready, client_takes, client_act, client_after, client_turned, call_with, noted, trail_of, client_ended, client_has_job};
+ghost use Rattle.step_core.specs.SharedClient.{tries_of, client_start, client_ready, client_takes, client_act, client_after, client_loaded, client_told, answer_in, client_turned, noted, trail_of, client_ended, client_has_job};
+ghost use Rattle.step_core.specs.Room.{with_items};
 ghost use Rattle.step_core.specs.SharedWords.{value_of};
-ghost use Rattle.step_core.specs.Ready.{ClientTakes, CallTakes, IsTries};
+ghost use Rattle.step_core.specs.Ready.{ClientTakes, CallAsks, IsTries};
 
 use crate::event::{Event, Trail};
+use crate::log::Log;
 use crate::marks::{Marks, Place};
-use crate::told::Told;
 use crate::words::{WORDS, value_of};
 use clock_gate::{Act, CallRow, ClockRow, Trace};
 use interval_now::{Answer, NowMachine};
@@ -62,17 +61,17 @@ impl Client {
         })
     }
 
-    // One turn: the next call is taken where none is in hand, and one load of it is made.
-    pub(crate) fn turn(&mut self, words: &[u64; WORDS], place: Place, trace: &Trace) -> Told
+    // One turn: the next call is taken where none is in hand, one load of it is made, and its answer is told.
+    pub(crate) fn turn(&mut self, words: &[u64; WORDS], place: Place, trace: &Trace, log: &mut Log)
         requires takes { ClientTakes trace.now.clock (client_ready (is_some trace.now.page) self.old).call (value_of words.now (client_act (client_ready (is_some trace.now.page) self.old))) }
         requires rows { length trace.now.clock ≤ MOST_HOST_ROWS }
         requires moments { IsClock trace.now.clock }
+        requires room { length (client_turned trace.now words.now place self.old).told ≤ log.old.room }
         ensures client { self.new ≡ (client_turned trace.now words.now place self.old).client }
-        ensures told { result ≡ (client_turned trace.now words.now place self.old).told }
+        ensures told { log.new ≡ with_items log.old (client_turned trace.now words.now place self.old).told }
     {
         self.take_up(trace.page.is_some());
-        let value = value_of(words, self.next());
-        self.advance(value, place, trace.clock.as_slice())
+        self.advance(words, place, trace.clock.as_slice(), log);
     }
 
     // Takes the next call, where none is in hand.
@@ -95,53 +94,68 @@ impl Client {
         }
     }
 
-    // The load that comes next.
-    fn next(&self) -> Act
-        ensures act { result ≡ client_act self.now }
-        ensures within { IsWithin 24 result }
-    {
-        match &self.call {
-            None => Act::End,
-            Some(call) => call.next(),
-        }
-    }
-
-    // Takes the value of that load.
-    fn advance(&mut self, value: u64, place: Place, clock: &[ClockRow]) -> Told
-        requires takes { ClientTakes clock.now self.old.call value }
+    fn advance(&mut self, words: &[u64; WORDS], place: Place, clock: &[ClockRow], log: &mut Log)
+        requires takes { ClientTakes clock.now self.old.call (value_of words.now (client_act self.old)) }
         requires rows { length clock.now ≤ MOST_HOST_ROWS }
         requires moments { IsClock clock.now }
-        ensures client { self.new ≡ (client_after clock.now place self.old value).client }
-        ensures told { result ≡ (client_after clock.now place self.old value).told }
+        requires room { length (client_after clock.now place self.old (value_of words.now (client_act self.old))).told ≤ log.old.room }
+        ensures client { self.new ≡ (client_after clock.now place self.old (value_of words.now (client_act self.old))).client }
+        ensures told { log.new ≡ with_items log.old (client_after clock.now place self.old (value_of words.now (client_act self.old))).told }
     {
-        match self.call.take() {
-            None => Told::nothing(),
-            Some(mut call) => {
-                let marks = noted(place, call.next(), self.marks);
-                call.give(value, clock);
-                self.after(marks, call)
-            }
+        self.load(words, place, clock);
+        if !self.asks() {
+            self.tell(log);
         }
     }
 
-    // The call goes on, or has its answer.
-    fn after(&mut self, marks: Marks, call: NowMachine) -> Told
-        requires { self.old.call ≡ None }
-        ensures client { self.new ≡ (call_with self.old marks call).client }
-        ensures told { result ≡ (call_with self.old marks call).told }
+    // Makes the load that comes next.
+    fn load(&mut self, words: &[u64; WORDS], place: Place, clock: &[ClockRow])
+        requires takes { ClientTakes clock.now self.old.call (value_of words.now (client_act self.old)) }
+        requires rows { length clock.now ≤ MOST_HOST_ROWS }
+        requires moments { IsClock clock.now }
+        ensures { self.new ≡ client_loaded clock.now place self.old (value_of words.now (client_act self.old)) }
     {
-        self.marks = marks;
-        match call.end() {
-            None => {
-                self.call = Some(call);
-                Told::nothing()
-            }
-            Some(answer) => Told::one(Event::Answered {
+        if let Some(call) = &mut self.call {
+            let act = call.next();
+            self.marks = noted(place, act, self.marks);
+            call.give(value_of(words, act), clock);
+        }
+    }
+
+    // Whether a call in hand wants another load.
+    fn asks(&self) -> bool
+        ensures { IsTrue result ↔ CallAsks self.now.call }
+    {
+        match &self.call {
+            None => true,
+            Some(call) => call.next() != Act::End,
+        }
+    }
+
+    // Tells the answer of the call in hand, where it has one.
+    fn tell(&mut self, log: &mut Log)
+        requires room { length (client_told self.old).told ≤ log.old.room }
+        ensures client { self.new ≡ (client_told self.old).client }
+        ensures told { log.new ≡ with_items log.old (client_told self.old).told }
+    {
+        if let Some(answer) = self.answer() {
+            log.push(Event::Answered {
                 client: self.number,
                 call: self.begun,
                 answer,
-                trail: trail_of(&answer, marks),
-            }),
+                trail: trail_of(&answer, self.marks),
+            });
+            self.call = None;
+        }
+    }
+
+    // The answer of the call in hand.
+    fn answer(&self) -> Option<Answer>
+        ensures { result ≡ answer_in self.now.call }
+    {
+        match &self.call {
+            None => None,
+            Some(call) => call.end(),
         }
     }
 

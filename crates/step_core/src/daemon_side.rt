@@ -1,4 +1,4 @@
-ghost use Rattle.std.specs.Prelude.{◌≡◌, ◌≢◌, ◌<◌, ◌≤◌, ◌^◌, ◌+◌, ◌*◌, ◌∷◌, if◌then◌else◌, slice_get, IfSome};
+ghost use Rattle.std.specs.Prelude.{◌≡◌, ◌≢◌, ◌<◌, ◌≤◌, ◌^◌, ◌+◌, ◌*◌, ◌∷◌, if◌then◌else◌, length, slice_get, IfSome};
 ghost use Rattle.clock_gate.specs.declared.act.Act.TheVariants.{End};
 ghost use Rattle.clock_gate.specs.declared.limits.TheConstants.{MOST_DRIFT, MOST_STORES};
 ghost use Rattle.clock_gate.specs.Trace.{IsPollRow};
@@ -6,12 +6,13 @@ ghost use Rattle.generation_word.specs.Layout.{period_of};
 ghost use Rattle.writer_reopen.specs.Opening.{opening_given};
 ghost use Rattle.writer_reopen.specs.PollMachine.{polling_act, DaemonFits, PolledFits};
 ghost use Rattle.step_core.specs.declared.hand.Hand.TheVariants.{Resting};
-ghost use Rattle.step_core.specs.Room.{list_of};
-ghost use Rattle.step_core.specs.SharedDaemon.{daemon_start, daemon_ready, daemon_ready_by, daemon_takes, hand_for, job_of, polling_for, hand_act, daemon_act, generation_after, moved_by, moved_told, resumed_from, lives, opening_with, noted_poll, noted_clock, stops_at_last, resumed_unless, stop_told, polling_with, polling_after, polled_to, publication_to, daemon_after, daemon_after_by, daemon_ended, daemon_has_job, is_resting};
-ghost use Rattle.step_core.specs.Ready.{DaemonTrace, HandTakes, HandAsks, OpeningTakes, PollTakes, ResumedFits, ResumedNumbered, HandActs};
+ghost use Rattle.step_core.specs.Room.{list_of, with_items};
+ghost use Rattle.step_core.specs.SharedDaemon.{daemon_start, daemon_ready, daemon_ready_by, daemon_takes, hand_for, job_of, polling_for, hand_act, daemon_act, generation_after, moved_by, moved_told, resumed_from, lives, opening_with, noted_poll, noted_clock, stops_at_last, resumed_unless, stop_told, polling_with, polling_after, polled_to, publication_to, daemon_after, daemon_given, daemon_left, hand_left, daemon_ended, daemon_has_job, is_resting};
+ghost use Rattle.step_core.specs.Ready.{DaemonTrace, HandTakes, HandAsks, HandLeaves, OpeningLeaves, ResumedFits, ResumedNumbered, HandActs};
 
 use crate::event::Event;
 use crate::hand::{Hand, Job, Polling, Reopening, Resumed};
+use crate::log::Log;
 use crate::marks::PollMarks;
 use crate::told::Told;
 use clock_gate::{Act, MOST_STORES, PollRow, Trace};
@@ -104,54 +105,111 @@ impl DaemonSide {
         }
     }
 
-    // Takes the value of that step.
-    pub(crate) fn advance(&mut self, value: u64, trace: &Trace, host_at: u32) -> Told
+    // Takes the value of that step, and tells what has ended with it.
+    pub(crate) fn advance(
+        &mut self,
+        act: Act,
+        value: u64,
+        trace: &Trace,
+        host_at: u32,
+        log: &mut Log,
+    )
+        requires act { act ≡ daemon_act self.old }
+        requires asks { HandAsks self.old.hand }
         requires trace { DaemonTrace trace.now }
         requires takes { HandTakes trace.now self.old.hand value }
         requires fits { ResumedFits self.old.resumed }
         requires small { self.old.position < 2 ^ 63 }
+        requires room { length (daemon_after trace.now host_at self.old value).told ≤ log.old.room }
         ensures daemon { self.new ≡ (daemon_after trace.now host_at self.old value).daemon }
-        ensures told { result ≡ (daemon_after trace.now host_at self.old value).told }
+        ensures told { log.new ≡ with_items log.old (daemon_after trace.now host_at self.old value).told }
+        ensures asks { HandAsks self.new.hand }
+        ensures fits { ResumedFits self.new.resumed }
+    {
+        self.give(act, value, trace, host_at);
+        if self.next() == Act::End {
+            self.leave(trace, log);
+        }
+    }
+
+    // What is in hand takes the value.
+    fn give(&mut self, act: Act, value: u64, trace: &Trace, host_at: u32)
+        requires act { act ≡ daemon_act self.old }
+        requires trace { DaemonTrace trace.now }
+        requires takes { HandTakes trace.now self.old.hand value }
+        ensures { self.new ≡ daemon_given trace.now host_at self.old value }
+    {
+        match &mut self.hand {
+            Hand::Resting => {}
+            Hand::Opening(reopening) => reopening.machine.give(value),
+            Hand::Polling(polling) => {
+                polling.marks = noted_poll(host_at, act, polling.marks);
+                polling.machine.give(value, trace.clock.as_slice());
+            }
+        }
+    }
+
+    // What is in hand has ended, or goes on.
+    fn leave(&mut self, trace: &Trace, log: &mut Log)
+        requires trace { DaemonTrace trace.now }
+        requires leaves { HandLeaves trace.now self.old.hand }
+        requires fits { ResumedFits self.old.resumed }
+        requires small { self.old.position < 2 ^ 63 }
+        requires room { length (daemon_left trace.now self.old).told ≤ log.old.room }
+        ensures daemon { self.new ≡ (daemon_left trace.now self.old).daemon }
+        ensures told { log.new ≡ with_items log.old (daemon_left trace.now self.old).told }
+        ensures asks { HandAsks self.new.hand }
+        ensures fits { ResumedFits self.new.resumed }
+    {
+        let told = self.left(trace);
+        log.tell(&told);
+    }
+
+    fn left(&mut self, trace: &Trace) -> Told
+        requires trace { DaemonTrace trace.now }
+        requires leaves { HandLeaves trace.now self.old.hand }
+        requires fits { ResumedFits self.old.resumed }
+        requires small { self.old.position < 2 ^ 63 }
+        ensures daemon { self.new ≡ (daemon_left trace.now self.old).daemon }
+        ensures told { result ≡ (daemon_left trace.now self.old).told }
         ensures asks { HandAsks self.new.hand }
         ensures fits { ResumedFits self.new.resumed }
     {
         let hand = mem::replace(&mut self.hand, Hand::Resting);
-        self.advance_hand(hand, value, trace, host_at)
+        self.leave_hand(hand, trace)
     }
 
-    // What was in hand takes the value.
-    fn advance_hand(&mut self, hand: Hand, value: u64, trace: &Trace, host_at: u32) -> Told
+    fn leave_hand(&mut self, hand: Hand, trace: &Trace) -> Told
         requires rests { self.old.hand ≡ Resting }
         requires trace { DaemonTrace trace.now }
-        requires takes { HandTakes trace.now hand value }
+        requires leaves { HandLeaves trace.now hand }
         requires fits { ResumedFits self.old.resumed }
         requires small { self.old.position < 2 ^ 63 }
-        ensures daemon { self.new ≡ (daemon_after_by trace.now host_at self.old value hand).daemon }
-        ensures told { result ≡ (daemon_after_by trace.now host_at self.old value hand).told }
+        ensures daemon { self.new ≡ (hand_left trace.now self.old hand).daemon }
+        ensures told { result ≡ (hand_left trace.now self.old hand).told }
         ensures asks { HandAsks self.new.hand }
         ensures fits { ResumedFits self.new.resumed }
     {
         match hand {
             Hand::Resting => Told::nothing(),
-            Hand::Opening(reopening) => self.open(reopening, value, trace),
-            Hand::Polling(polling) => self.poll(polling, value, trace, host_at),
+            Hand::Opening(reopening) => self.open(reopening, trace),
+            Hand::Polling(polling) => self.poll(polling),
         }
     }
 
-    // One step of this opening.
-    fn open(&mut self, reopening: Reopening, value: u64, trace: &Trace) -> Told
+    // This opening has ended, or goes on.
+    fn open(&mut self, reopening: Reopening, trace: &Trace) -> Told
         requires rests { self.old.hand ≡ Resting }
         requires trace { DaemonTrace trace.now }
-        requires takes { OpeningTakes trace.now reopening value }
+        requires leaves { OpeningLeaves trace.now reopening }
         requires fits { ResumedFits self.old.resumed }
         requires small { self.old.position < 2 ^ 63 }
-        ensures daemon { self.new ≡ (opening_with trace.now self.old reopening.job (opening_given reopening.machine value)).daemon }
-        ensures told { result ≡ (opening_with trace.now self.old reopening.job (opening_given reopening.machine value)).told }
+        ensures daemon { self.new ≡ (opening_with trace.now self.old reopening.job reopening.machine).daemon }
+        ensures told { result ≡ (opening_with trace.now self.old reopening.job reopening.machine).told }
         ensures asks { HandAsks self.new.hand }
         ensures fits { ResumedFits self.new.resumed }
     {
-        let Reopening { mut machine, job } = reopening;
-        machine.give(value);
+        let Reopening { machine, job } = reopening;
         match machine.end() {
             None => {
                 self.hand = Hand::Opening(Reopening { machine, job });
@@ -200,25 +258,21 @@ impl DaemonSide {
         }
     }
 
-    // One step of this poll.
-    fn poll(&mut self, polling: Polling, value: u64, trace: &Trace, host_at: u32) -> Told
+    // This poll has ended, or goes on.
+    fn poll(&mut self, polling: Polling) -> Told
         requires rests { self.old.hand ≡ Resting }
-        requires trace { DaemonTrace trace.now }
-        requires takes { PollTakes trace.now polling value }
         requires fits { ResumedFits self.old.resumed }
         requires small { self.old.position < 2 ^ 63 }
-        ensures daemon { self.new ≡ (polling_with self.old (polling_after trace.now host_at polling value)).daemon }
-        ensures told { result ≡ (polling_with self.old (polling_after trace.now host_at polling value)).told }
+        ensures daemon { self.new ≡ (polling_with self.old polling).daemon }
+        ensures told { result ≡ (polling_with self.old polling).told }
         ensures asks { HandAsks self.new.hand }
         ensures fits { ResumedFits self.new.resumed }
     {
         let Polling {
-            mut machine,
+            machine,
             stop,
             marks,
         } = polling;
-        let marks = noted_poll(host_at, machine.next(), marks);
-        machine.give(value, trace.clock.as_slice());
         match machine.end() {
             None => {
                 self.hand = Hand::Polling(Polling {

@@ -1,5 +1,5 @@
-ghost use Rattle.std.specs.Prelude.{◌≡◌, ◌+◌, ◌-◌, ◌≤◌, ◌<◌, [], ◌∷◌, ◌++◌, length, IfOk};
-ghost use Rattle.step_core.specs.Room.{list_of};
+ghost use Rattle.std.specs.Prelude.{◌≡◌, ◌+◌, ◌≤◌, ◌<◌, [], ◌∷◌, length, IfOk};
+ghost use Rattle.step_core.specs.Room.{list_of, with_items};
 
 use crate::event::Event;
 use crate::told::Told;
@@ -37,7 +37,7 @@ impl Log {
 
     pub(crate) fn push(&mut self, event: Event)
         requires { 0 < self.old.room }
-        ensures { self.new ≡ record { items = self.old.items ++ event ∷ []; room = self.old.room - 1 } }
+        ensures { self.new ≡ with_items self.old (event ∷ []) }
     {
         // The check wants to be told of the types of other crates that an event holds.
         let _held: Option<(Start, Answer)> = None;
@@ -48,7 +48,7 @@ impl Log {
     // The events of one turn.
     pub(crate) fn tell(&mut self, told: &Told)
         requires { length told.now ≤ self.old.room }
-        ensures { self.new ≡ record { items = self.old.items ++ told.now; room = self.old.room - length told.now } }
+        ensures { self.new ≡ with_items self.old told.now }
     {
         self.put(told.first);
         self.put(told.second);
@@ -56,7 +56,7 @@ impl Log {
 
     fn put(&mut self, event: Option<Event>)
         requires { length (list_of event) ≤ self.old.room }
-        ensures { self.new ≡ record { items = self.old.items ++ list_of event; room = self.old.room - length (list_of event) } }
+        ensures { self.new ≡ with_items self.old (list_of event) }
     {
         match event {
             None => {}

@@ -68,11 +68,24 @@ impl<'t> World<'t> {
         }
     }
 
-    #[tactic(auto, using(crate::proofs::Schedules::turns_less))]
     fn turns_of(&mut self, who: Party, count: u32)
         ensures { self.new ≡ schedule.turns_of shared_turn jobs_ended has_job count who self.old }
     {
+        match who {
+            Party::Client(number) => self.client_turns(number, count),
+            Party::Host | Party::Daemon => self.turns_to_idle(who, count),
+        }
+    }
+
+    // Turns of a party. One without a job in hand or left has none that changes anything.
+    #[tactic(auto, using(crate::proofs::Schedules::turns_less, crate::proofs::Idle::still_turns))]
+    fn turns_to_idle(&mut self, who: Party, count: u32)
+        ensures { self.new ≡ schedule.turns_of shared_turn jobs_ended has_job count who self.old }
+    {
         'turns: for _ in 0..count {
+            if self.is_idle(who) {
+                return;
+            }
             self.turn(who);
         }
     }

@@ -1,4 +1,5 @@
-ghost use Rattle.std.specs.Prelude.{◌≡◌, ◌≤◌, ◌<◌, ◌+◌, ◌-◌, ◌*◌, ◌^◌, ◌++◌, ◌∷◌, [], length, slice_get, slice_index, IfOk, IfSome};
+ghost use Rattle.std.specs.Prelude.{◌≡◌, ◌≤◌, ◌<◌, ◌+◌, ◌-◌, ◌*◌, ◌^◌, ◌++◌, ◌∷◌, [], length, not, slice_get, slice_index, IfOk, IfSome, IsTrue};
+ghost use Rattle.step_core.specs.Schedule as schedule;
 ghost use Rattle.step_core.specs.Shared.{shared_start, shared_turn, host_steps, daemon_steps, client_turn, client_at, page_part, jobs_ended, has_job, ended_of, has_job_of};
 ghost use Rattle.step_core.specs.SharedHost.{host_ready};
 ghost use Rattle.step_core.specs.SharedDaemon.{daemon_ready};
@@ -16,6 +17,7 @@ use crate::event::Event;
 use crate::host_side::HostSide;
 use crate::log::Log;
 use crate::marks::Place;
+use crate::trace_types::{image_fits, page_fits};
 use crate::words::{WORDS, act_on, value_of};
 use clock_gate::{Memory, Party, Trace};
 use std::alloc::{AllocError, Global};
@@ -111,21 +113,46 @@ impl<'t> World<'t> {
     fn daemon_turn(&mut self)
         ensures { self.new ≡ daemon_steps self.old (daemon_ready self.old.trace self.old.daemon) }
     {
-        let trace = self.trace;
-        self.daemon.take_up(trace);
-        let act = self.daemon.next();
-        let value = value_of(&self.words, act);
-        let host_at = self.host.done();
-        let told = self.daemon.advance(value, trace, host_at);
-        act_on(&mut self.words, act);
-        self.events.tell(&told);
+        let World {
+            trace,
+            words,
+            host,
+            daemon,
+            events,
+            ..
+        } = self;
+        daemon.take_up(trace);
+        let act = daemon.next();
+        let value = value_of(words, act);
+        let host_at = host.done();
+        daemon.advance(act, value, trace, host_at, events);
+        act_on(words, act);
     }
 
     fn client_turn(&mut self, number: u32)
         ensures { self.new ≡ client_turn self.old (number - 1) (client_at self.old.clients number) }
     {
+        self.client_turns(number, 1);
+    }
+
+    // So many turns of a client. One without a call in hand or left has none that changes anything.
+    pub(crate) fn client_turns(&mut self, number: u32, count: u32)
+        ensures { self.new ≡ schedule.turns_of shared_turn jobs_ended has_job count (Party.Client number) self.old }
+    {
         if number > 0 && (number as usize) <= self.clients.len() {
-            self.client_turn_at(number as usize - 1);
+            self.client_turns_at(number as usize - 1, count);
+        }
+    }
+
+    fn client_turns_at(&mut self, place: usize, count: u32)
+        requires { place < length self.old.clients }
+        ensures { self.new ≡ schedule.turns_of shared_turn jobs_ended has_job count (Party.Client (place + 1)) self.old }
+    {
+        'turns: for _ in 0..count {
+            if !self.clients[place].has_job() {
+                return;
+            }
+            self.client_turn_at(place);
         }
     }
 
@@ -133,15 +160,20 @@ impl<'t> World<'t> {
         requires { place < length self.old.clients }
         ensures { self.new ≡ client_turn self.old place (slice_get self.old.clients place) }
     {
-        let trace = self.trace;
-        let words = self.words;
+        let World {
+            trace,
+            words,
+            host,
+            daemon,
+            clients,
+            events,
+        } = self;
         let stands = Place {
-            position: self.daemon.position(),
-            host_at: self.host.done(),
+            position: daemon.position(),
+            host_at: host.done(),
         };
-        let client = &mut self.clients[place];
-        let told = client.turn(&words, stands, trace);
-        self.events.tell(&told);
+        let client = &mut clients[place];
+        client.turn(words, stands, trace, events);
     }
 
     // What the run is given.
@@ -186,6 +218,15 @@ impl<'t> World<'t> {
         }
     }
 
+    // Whether a party has no job in hand or left: its turns change nothing.
+    pub(crate) fn is_idle(&self, who: Party) -> bool
+        ensures idle { result ≡ not (has_job self.now who) }
+        ensures still { IsTrue result → shared_turn self.now who ≡ self.now }
+    {
+        let _ = &self.trace;
+        !self.has_job(who)
+    }
+
     fn has_call(&self, number: u32) -> bool
         ensures { result ≡ has_job_of (client_at self.now.clients number) }
     {
@@ -226,31 +267,6 @@ impl<'t> World<'t> {
     {
         self.host.done()
     }
-}
-
-// A page has 13 words of 64 bits.
-fn page_fits(page: &Option<[u64; 13]>)
-    ensures { IfSome page.now AreWords }
-{
-    if let Some(words) = page {
-        words_fit(words);
-    }
-}
-
-fn words_fit(words: &[u64; 13])
-    ensures { AreWords words.now }
-{
-    'words: for place in 0..13 {
-        let _ = words[place];
-    }
-}
-
-// An image has ten words of 64 bits.
-fn image_fits(image: &[u64; 10])
-    ensures ten { length image.now ≡ 10 }
-    ensures fits { slice_index image.now 1 < 2 ^ 64 }
-{
-    let _ = image[1];
 }
 
 // The clients, the one with number 1 first.
