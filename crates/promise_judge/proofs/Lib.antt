@@ -1,0 +1,13 @@
+pub mod WorkedRows
+pub mod Firsts
+pub mod Pages
+pub mod Steps
+pub mod Places
+pub mod Contained
+pub mod ByTables
+pub mod Filling
+pub mod Placing
+pub mod MorePages
+pub mod PagedNext
+pub mod Whole
+pub mod Walking

@@ -1,0 +1,11 @@
+pub mod Firsts
+pub mod Searching
+pub mod Offsets
+pub mod Positions
+pub mod Markers
+pub mod Disruptions
+pub mod Promises
+pub mod Telling
+pub mod Shown
+pub mod Paging
+pub mod Containment
