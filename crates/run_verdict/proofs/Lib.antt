@@ -1,0 +1,4 @@
+mod Backwards
+mod PastNext
+mod Unbased
+mod Verdicts

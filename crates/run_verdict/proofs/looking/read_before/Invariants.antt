@@ -1,0 +1,10 @@
+use Rattle.std.proofs.Common.{◌≡◌, ◌≤◌}
+use Rattle.step_core.specs.RunFacts.{told_at}
+use Rattle.run_verdict.specs.Past.{past_of}
+use Rattle.run_verdict.proofs.looking.read_before.Given as goal
+
+abbrev pub invariant-back : goal.invariant-back
+invariant-back l = (l.left ≤ l.place) × (told_at l.position (past_of l.events l.left) ≡ told_at l.position (past_of l.events l.place))
+
+abbrev pub decreases-back : goal.decreases-back
+decreases-back l = l.left
