@@ -1,0 +1,4 @@
+mod Adding
+pub mod Lawful
+mod Orders
+mod Rounds

@@ -1,0 +1,4 @@
+pub mod Day
+pub mod Draws
+pub mod Seconds
+pub mod Text
