@@ -1,0 +1,3 @@
+mod Clocks
+mod Hosts
+pub mod Kept
