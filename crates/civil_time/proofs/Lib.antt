@@ -1,0 +1,3 @@
+pub mod Civil
+pub mod Computed
+pub mod Texts
