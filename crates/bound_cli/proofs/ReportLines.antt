@@ -1,24 +1,25 @@
 -- The lines and the counts of events, event by event.
-use Rattle.std.proofs.Common.{◌≡◌, ◌+◌, ◌<◌, ◌≤◌, ◌++◌, ℕ, zero, suc, List, [], ◌∷◌, drop, get_or, length, refl, ap, ◌∙◌, arith}
+use Rattle.std.proofs.Common.{◌≡◌, ◌+◌, ◌<◌, ◌≤◌, ◌++◌, ℕ, List, [], drop, get_or, length, refl, ap, ◌∙◌, arith}
 use Rattle.std.specs.List.{flat_map}
 use Rattle.std.proofs.lemmas.List.{drop_more}
 use Rattle.std.proofs.lemmas.List.Concat.{flat_map-cons}
 use Rattle.step_core.specs.declared.event.Event.{Event}
-use Rattle.report_audit.specs.Lines.{line_text}
+use Rattle.bound_cli.specs.declared.times.Times.{Times}
 use Rattle.bound_cli.specs.declared.totals.Totals.{Totals}
+use Rattle.bound_cli.specs.Civil.{line_with}
 use Rattle.bound_cli.specs.Replay.{AreUpTo, printed_of, lines_of, counted, counted_all}
 
 -- the lines from a place on begin with that of the event there
-pub lines_of-more : (start : ℕ) (events : List Event) (place : ℕ) (d : Event) → place < length events
-    → lines_of start (drop place events) ≡ line_text (printed_of start (get_or events place d)) ++ lines_of start (drop (place + 1) events)
+pub lines_of-more : (times : Times) (start : ℕ) (events : List Event) (place : ℕ) (d : Event) → place < length events
+    → lines_of times start (drop place events) ≡ line_with times (printed_of start (get_or events place d)) ++ lines_of times start (drop (place + 1) events)
 unfolding lines_of
-lines_of-more start events place d before =
-    ap (λ (rest : List Event). flat_map (λ (event : Event). line_text (printed_of start event)) rest) (drop_more events place d before)
-    ∙ flat_map-cons (λ (event : Event). line_text (printed_of start event)) (get_or events place d) (drop (place + 1) events)
+lines_of-more times start events place d before =
+    ap (λ (rest : List Event). flat_map (λ (event : Event). line_with times (printed_of start event)) rest) (drop_more events place d before)
+    ∙ flat_map-cons (λ (event : Event). line_with times (printed_of start event)) (get_or events place d) (drop (place + 1) events)
 
-pub lines_of-none : (start : ℕ) → lines_of start [] ≡ []
+pub lines_of-none : (times : Times) (start : ℕ) → lines_of times start [] ≡ []
 unfolding lines_of
-lines_of-none start = refl
+lines_of-none times start = refl
 
 -- the counts from a place on begin with the event there
 pub counted_all-more : (t : Totals) (events : List Event) (place : ℕ) (d : Event) → place < length events

@@ -1,5 +1,9 @@
+pub mod Civil
 pub mod Command
-pub mod Output
+pub mod Premises
 pub mod Replay
+pub mod Drill
+pub mod Output
 pub mod Serve
 pub mod Stream
+pub mod Headline

@@ -1,4 +1,5 @@
--- What is reported of a trace: a line for each event of its run, in the order in which they ended, and their counts.
+-- What is reported of a trace: a line for each event of its run, in the order in which they ended, their counts, and whether the
+-- promises that its answers rest on were kept.
 use Rattle.std.specs.Prelude.{ℕ, ◌+◌, ◌≤◌, List, [], ◌∷◌, ◌++◌, Result, Ok, Err}
 use Rattle.std.specs.List.{flat_map}
 use Rattle.clock_gate.specs.declared.clock_status.ClockStatus.{ClockStatus}
@@ -10,14 +11,17 @@ use Rattle.interval_now.specs.declared.answers.Answer.{Answer}
 use Rattle.interval_now.specs.declared.answers.Answer.TheVariants as answers
 use Rattle.step_core.specs.declared.event.Event.{Event}
 use Rattle.step_core.specs.declared.event.Event.TheVariants as events
-use Rattle.step_core.specs.Run.{Run}
 use Rattle.step_core.specs.RunWhole.{run_of}
 use Rattle.report_audit.specs.declared.printed.Printed.{Printed}
 use Rattle.report_audit.specs.declared.printed.Printed.TheVariants as lines
 use Rattle.report_audit.specs.Lines.{line_text}
+use Rattle.run_promises.specs.Judged.{premises_of}
 use Rattle.trace_reader.specs.Grammar.{trace_in}
 use Rattle.trace_reader.specs.declared.trace_error.TraceFault.{TraceFault}
+use Rattle.bound_cli.specs.declared.times.Times.{Times}
 use Rattle.bound_cli.specs.declared.totals.Totals.{Totals}
+use Rattle.bound_cli.specs.Civil.{line_with}
+use Rattle.bound_cli.specs.Premises.{premises_line}
 
 -- the number of the page that an answer saw, among those of the run, where the start page had this sequence count; 0 where it
 -- saw none
@@ -39,8 +43,8 @@ printed_of start (events.Stopped poll stores) = lines.Stopped poll stores
 printed_of start (events.Answered client call answer trail) = lines.Answered client call (page_of start answer) answer
 
 -- the lines of these events, one after another
-unfoldable pub lines_of : (start : ℕ) → List Event → List ℕ
-lines_of start events = flat_map (λ event. line_text (printed_of start event)) events
+unfoldable pub lines_of : Times → (start : ℕ) → List Event → List ℕ
+lines_of times start events = flat_map (λ event. line_with times (printed_of start event)) events
 
 -- ---- the counts
 
@@ -81,14 +85,19 @@ counts_of t =
 
 -- ---- the report
 
--- the header, a line for each event, and the counts
-unfoldable pub report_text : (start : ℕ) → List Event → List ℕ
-report_text start events =
-    (line_text lines.Header ++ lines_of start events) ++ line_text (lines.Total (counts_of (counted_all no_totals events)))
+-- the counts of these events, and whether the promises of their answers were kept
+unfoldable pub summary_text : Trace → List Event → List ℕ
+summary_text trace events =
+    line_text (lines.Total (counts_of (counted_all no_totals events))) ++ premises_line (premises_of trace events)
+
+-- the header, a line for each event, and what they come to
+unfoldable pub report_text : Times → Trace → List Event → List ℕ
+report_text times trace events =
+    (line_text lines.Header ++ lines_of times (count_of trace.page) events) ++ summary_text trace events
 
 -- the report of a trace: of the events of its run
-abbrev pub report_of : Trace → List ℕ
-report_of trace = report_text (count_of trace.page) (run_of trace).events
+abbrev pub report_of : Times → Trace → List ℕ
+report_of times trace = report_text times trace (run_of trace).events
 
 -- what was found goes into the next step; a fault stays the answer
 infixl 10 ◌>>=◌
@@ -97,8 +106,8 @@ abbrev pub ◌>>=◌ : {A B : Type 0} → Result A TraceFault → (A → Result 
 (Err fault) >>= f = Err fault
 
 -- the report of a text, or the fault of its first refused line
-unfoldable pub replay_report : List ℕ → Result (List ℕ) TraceFault
-replay_report bytes = trace_in bytes >>= λ trace. Ok (report_of trace)
+unfoldable pub replay_report : Times → List ℕ → Result (List ℕ) TraceFault
+replay_report times bytes = trace_in bytes >>= λ trace. Ok (report_of times trace)
 
 -- ---- the counts stay small
 

@@ -1,10 +1,20 @@
 -- What the top call answers and writes, by its command and the bytes of its source.
-use Rattle.std.specs.Prelude.{◌≡◌, ℕ, ◌<◌, ◌≤◌, List, ◌++◌, length, take, Option, Some, Err, IsOk, IfOk, ⊤}
+use Rattle.std.specs.Prelude.{◌≡◌, ℕ, ◌<◌, ◌≤◌, List, [], ◌++◌, length, take, if◌then◌else◌, Option, Some, false, Result, Ok, Err, IsOk, IfOk, ⊤}
 use Rattle.clock_gate.specs.declared.limits.TheConstants.{INPUT_LIMIT}
 use Rattle.bound_cli.specs.declared.command.Command.{Command}
+use Rattle.bound_cli.specs.Command.{reads}
 use Rattle.bound_cli.specs.declared.status.Status.{Status}
 use Rattle.bound_cli.specs.declared.status.Status.TheVariants as status
 use Rattle.bound_cli.specs.Output.{output_of}
+
+-- what a command takes its input from: all that the source has left, or nothing where it reads no input
+abbrev pub input_of : Command → Option (List ℕ) → Option (List ℕ)
+input_of command left = if reads command then left else Some []
+
+-- a command line after which nothing is read: a refused one, or one of a command without input
+abbrev pub IsUnread : Result Command ℕ → Type 0
+IsUnread (Ok command) = reads command ≡ false
+IsUnread (Err n) = ⊤
 
 -- the bytes are within the limit, and the command has an output for them
 abbrev pub IsAccepted : Command → List ℕ → Type 0

@@ -1,14 +1,19 @@
+use crate::times::Times;
 use decode_text::What;
 
 /// What a command line asks for.
 #[derive(Clone, Copy, Debug, PartialEq, Eq)]
 pub enum Command {
-    /// `replay`: the report of a trace.
-    Replay,
+    /// `replay` and `replay --civil`: the report of a trace.
+    Replay(Times),
     /// `decode reply`, `decode page`, `decode image`: what hexadecimal text tells.
     Decode(What),
     /// `pagetime`: the time that pages and readings of their counters tell.
     Pagetime,
     /// `agree`: the points on which all but so many clocks agree.
     Agree,
+    /// `drill SEED POLLS`: what the report of a generated day counts, and whether its promises were kept.
+    Drill { seed: u64, polls: u32 },
+    /// `drill SEED POLLS --trace`: the trace of that day.
+    DrillTrace { seed: u64, polls: u32 },
 }

@@ -1,13 +1,22 @@
-//! The report of a run: a line for each of its events, and their counts.
+//! The report of a run: a line for each of its events, their counts, and whether the promises of its answers were kept.
 ghost use Rattle.std.specs.Prelude.{◌≡◌, ◌≤◌, ◌++◌, length, IfOk, OnOk};
 ghost use Rattle.std.specs.String.{string_bytes};
 ghost use Rattle.step_core.specs.declared.limits.TheConstants.{MOST_EVENTS};
+ghost use Rattle.step_core.specs.SharedReady.{CanRun};
+ghost use Rattle.run_promises.specs.Judged.{premises_of};
+ghost use Rattle.step_core.specs.RunWhole.{run_of};
 ghost use Rattle.vmclock_page.specs.Host.{count_of};
-ghost use Rattle.bound_cli.specs.Replay.{counts_of, lines_of, page_of, printed_of, report_text};
+ghost use Rattle.bound_cli.specs.Replay.{counts_of, lines_of, page_of, printed_of, report_text, summary_text};
 
+use crate::civil::put_line_with;
+use crate::premises_line::put_premises;
+use crate::times::Times;
 use crate::totals::{Totals, totals_of};
+use clock_gate::{Memory, Trace};
 use interval_now::Answer;
 use report_audit::{Printed, put_line};
+use run_promises::{Premises, any_run};
+use run_verdict::judged_run;
 use std::alloc::{AllocError, Global};
 use step_core::Event;
 use vmclock_page::page_number;
@@ -16,7 +25,7 @@ use vmclock_page::page_number;
 const LINE_ROOM: usize = 96;
 
 /// The sequence count of the start page, or 0 without a page.
-pub fn start_count(page: &Option<[u64; 13]>) -> u32
+fn start_count(page: &Option<[u64; 13]>) -> u32
     ensures { result ≡ count_of page.now }
 {
     match page {
@@ -86,11 +95,16 @@ fn printed(start: u32, event: &Event) -> Printed
     }
 }
 
-fn put_events(text: &mut String, start: u32, events: &[Event]) -> Result<(), AllocError>
-    ensures { OnOk result (string_bytes text.new ≡ string_bytes text.old ++ lines_of start events.now) }
+fn put_events(
+    text: &mut String,
+    times: Times,
+    start: u32,
+    events: &[Event],
+) -> Result<(), AllocError>
+    ensures { OnOk result (string_bytes text.new ≡ string_bytes text.old ++ lines_of times start events.now) }
 {
     'events: for event in events {
-        put_line(text, &printed(start, event))?;
+        put_line_with(text, times, &printed(start, event))?;
     }
     Ok(())
 }
@@ -111,15 +125,54 @@ fn total(totals: &Totals) -> Printed
     }
 }
 
-/// The report of these events, where the start page had this sequence count.
-#[tactic(auto, unfolding(crate::specs::Replay::report_text))]
-pub fn report(alloc: Global, start: u32, events: &[Event]) -> Result<String, AllocError>
-    requires { length events.now ≤ MOST_EVENTS }
-    ensures { IfOk result (λ text. string_bytes text ≡ report_text start events.now) }
+// The premises of a run with these events.
+fn premises_of(alloc: Global, trace: &Trace, events: &[Event]) -> Result<Premises, AllocError>
+    requires few { length events.now ≤ MOST_EVENTS }
+    requires can { CanRun trace.now }
+    requires run { events.now ≡ (run_of trace.now).events }
+    ensures { IfOk result (λ premises. premises ≡ premises_of trace.now events.now) }
 {
-    let mut text = String::with_capacity(alloc, LINE_ROOM * (events.len() + 2))?;
+    any_run();
+    match judged_run(alloc, trace, events) {
+        Ok(premises) => Ok(premises),
+        Err(Memory) => Err(AllocError),
+    }
+}
+
+/// Appends the counts of these events, and whether the promises of their answers were kept.
+#[tactic(auto, unfolding(crate::specs::Replay::summary_text))]
+pub fn put_summary(
+    alloc: Global,
+    text: &mut String,
+    trace: &Trace,
+    events: &[Event],
+) -> Result<(), AllocError>
+    requires few { length events.now ≤ MOST_EVENTS }
+    requires can { CanRun trace.now }
+    requires run { events.now ≡ (run_of trace.now).events }
+    ensures { OnOk result (string_bytes text.new ≡ string_bytes text.old ++ summary_text trace.now events.now) }
+{
+    let premises = premises_of(alloc, trace, events)?;
+    put_line(text, &total(&totals_of(events)))?;
+    put_premises(text, &premises)
+}
+
+/// The report of a run of this trace with these events.
+#[tactic(auto, unfolding(crate::specs::Replay::report_text))]
+pub fn report(
+    alloc: Global,
+    times: Times,
+    trace: &Trace,
+    events: &[Event],
+) -> Result<String, AllocError>
+    requires few { length events.now ≤ MOST_EVENTS }
+    requires can { CanRun trace.now }
+    requires run { events.now ≡ (run_of trace.now).events }
+    ensures { IfOk result (λ text. string_bytes text ≡ report_text times trace.now events.now) }
+{
+    let mut text = String::with_capacity(alloc, LINE_ROOM * (events.len() + 3))?;
     put_line(&mut text, &Printed::Header)?;
-    put_events(&mut text, start, events)?;
-    put_line(&mut text, &total(&totals_of(events)))?;
+    put_events(&mut text, times, start_count(&trace.page), events)?;
+    put_summary(alloc, &mut text, trace, events)?;
     Ok(text)
 }

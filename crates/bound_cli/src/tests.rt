@@ -5,17 +5,15 @@ use std::test::Fail;
 use trace_reader::Reason;
 
 const TRACE: &str = "clockbound-trace,1
-clock,1000000000,1700000000000000000
+clock,1000000000,1700000000000000000,1700000000000100000
 poll,06020000002100050000000000000000000000010000000000000000a9fea97ba9fea97b0000000000000000000000000001000000040000000000006500000000000000f7ffffff0000000000000000000000000000000000000000ec800000ea80000000000000
-clock,3500000000,1700000002500000000
+clock,3500000000,1700000002500000000,1700000002500100000
 call,1
 ";
 
 // A start page with sequence count 2 and marker 7.
-const PAGE: &str = "56434c4b68000000 0100010002000000 0700000000000000
-0000000000000000 0000000000000000 0000000000000000 0000000000000000 0000000000000000
-0000000000000000 0000000000000000 0000000000000000 0000000000000000 0000000000000000
-";
+const PAGE: &str =
+    "56434c4b68000000010001000200000007000000000000000000000000000000000000000000000000000000000000000000000000000000000000000000000000000000000000000000000000000000000000000000000000000000000000000000000000000000";
 
 // A segment of layout 2 with generation 65,534.
 const IMAGE: &str = "4e5a4d4100024243500000000200feff\
@@ -27,36 +25,7 @@ open,1,fresh,0
 pub,1,1,2,1,0,1,synchronized,1000000000,244142,0,1
 ans,1,1,time,2,2,0,synchronized,1700000002499630858,1700000002500369142
 total,1,1,1,0,1,0,0
-";
-
-// A settled client: bound 3,865 ns, and 56 ns more 1,118,436 ns later.
-const STEADY: &str = "clockbound-trace,1
-clock,866569694897,1796071125134623551
-poll,060200000021000500000000000000005e09635200000000000000007f0000017f0000010000000000000000000000000001000000090000000000006b0dded4266f2487dd77931fd14acc36d69d8997fd56488bf29d9438049babeddcedd575de83a526fc8bf025
-clock,866570813333,1796071125135743013
-call,1
-";
-
-const STEADY_REPORT: &str = "clockbound-report,1
-open,1,fresh,0
-pub,1,1,2,1,0,1,synchronized,866569694897,3865,0,1
-ans,1,1,time,2,2,0,synchronized,1796071125135739092,1796071125135746934
-total,1,1,1,0,1,0,0
-";
-
-// 4 s after its only server was stopped: bound 1,146,515 ns, and 16 ns more 319,143 ns later.
-const SOURCE_LOST: &str = "clockbound-trace,1
-clock,874650942818,1796071133215871266
-poll,06020000002100050000000000000000f53afdf800000000000000007f0000017f0000010000000000000000000000000001000000090000000000006b0dded82868f019eaed13fcd683325cd6ccc3920d5f3032fa8b6ab40691b880e081e3a3eef0c660fc80cdeb
-clock,874651261961,1796071133216192280
-call,1
-";
-
-const SOURCE_LOST_REPORT: &str = "clockbound-report,1
-open,1,fresh,0
-pub,1,1,2,1,0,1,synchronized,874650942818,1146515,0,1
-ans,1,1,time,2,2,0,synchronized,1796071133215045749,1796071133217338811
-total,1,1,1,0,1,0,0
+premises,held
 ";
 
 fn words(alloc: Global, words: &[&str]) -> Result<Vec<String>, AllocError> {
@@ -67,17 +36,18 @@ fn words(alloc: Global, words: &[&str]) -> Result<Vec<String>, AllocError> {
     Ok(all)
 }
 
-// What a replay of a text comes to, and what is written, where each call moves at most so many bytes and the calls of
+// What these words come to over a text, and what is written, where each call moves at most so many bytes and the calls of
 // these numbers fail.
-fn replayed(
+fn served(
     alloc: Global,
+    given: &[&str],
     text: &[u8],
     piece: usize,
     read_fails: &[u64],
     room: usize,
     write_fails: &[u64],
 ) -> Result<(Status, Vec<u8>), Fail> {
-    let words = words(alloc, &["replay"])?;
+    let words = words(alloc, given)?;
     let piece = piece.max(1);
     let text = List::from_vec(text.to_vec(alloc)?);
     let mut source = MemSource::new(text, piece, List::from_vec(read_fails.to_vec(alloc)?));
@@ -89,6 +59,30 @@ fn replayed(
     Ok((status, sink.bytes().to_vec(alloc)?))
 }
 
+fn replayed(alloc: Global, text: &[u8]) -> Result<(Status, Vec<u8>), Fail> {
+    served(alloc, &["replay"], text, 65_536, &[], 1_000, &[])
+}
+
+// A replay of the trace above.
+fn carried(
+    alloc: Global,
+    piece: usize,
+    read_fails: &[u64],
+    room: usize,
+    write_fails: &[u64],
+) -> Result<(Status, Vec<u8>), Fail> {
+    let text = TRACE.as_bytes();
+    served(
+        alloc,
+        &["replay"],
+        text,
+        piece,
+        read_fails,
+        room,
+        write_fails,
+    )
+}
+
 fn refused(line: u32, reason: Reason) -> Status {
     Status::Trace { line, reason }
 }
@@ -96,20 +90,9 @@ fn refused(line: u32, reason: Reason) -> Status {
 #[test]
 fn a_trace_is_replayed_in_pieces_of_any_size(rt: HostRuntime) -> Result<(), Fail> {
     for piece in [1, 7, 65_536] {
-        let (status, written) = replayed(rt.alloc(), TRACE.as_bytes(), piece, &[], 1_000, &[])?;
+        let (status, written) = carried(rt.alloc(), piece, &[], 1_000, &[])?;
         assert_eq!(rt; status, Status::Ok, "pieces of {piece}");
         assert_eq!(rt; written.as_slice(), REPORT.as_bytes(), "pieces of {piece}");
-    }
-    Ok(())
-}
-
-// Replies of a real chronyd: one from a settled client, and one from a client that lost its server 4 s before.
-#[test]
-fn a_real_reply_is_replayed(rt: HostRuntime) -> Result<(), Fail> {
-    for (trace, report) in [(STEADY, STEADY_REPORT), (SOURCE_LOST, SOURCE_LOST_REPORT)] {
-        let (status, written) = replayed(rt.alloc(), trace.as_bytes(), 65_536, &[], 1_000, &[])?;
-        assert_eq!(rt; status, Status::Ok);
-        assert_eq!(rt; written.as_slice(), report.as_bytes());
     }
     Ok(())
 }
@@ -129,7 +112,7 @@ fn csv_may_be_written_in_other_ways(rt: HostRuntime) -> Result<(), Fail> {
         &with_a_mark,
         &without_its_end,
     ] {
-        let (status, written) = replayed(alloc, text.as_bytes(), 65_536, &[], 1_000, &[])?;
+        let (status, written) = replayed(alloc, text.as_bytes())?;
         assert_eq!(rt; status, Status::Ok);
         assert_eq!(rt; written.as_slice(), REPORT.as_bytes());
     }
@@ -138,13 +121,13 @@ fn csv_may_be_written_in_other_ways(rt: HostRuntime) -> Result<(), Fail> {
 
 #[test]
 fn each_failing_read_is_answered_with_nothing_written(rt: HostRuntime) -> Result<(), Fail> {
-    // In pieces of ten bytes the trace takes 32 calls, and its end one more.
-    for number in 1..34 {
-        let (status, written) = replayed(rt.alloc(), TRACE.as_bytes(), 10, &[number], 1_000, &[])?;
+    // In pieces of ten bytes the trace takes 36 calls, and its end one more.
+    for number in 1..38 {
+        let (status, written) = carried(rt.alloc(), 10, &[number], 1_000, &[])?;
         assert_eq!(rt; status, Status::Read, "call {number}");
         assert!(rt; written.is_empty(), "call {number}");
     }
-    let (status, _) = replayed(rt.alloc(), TRACE.as_bytes(), 10, &[34], 1_000, &[])?;
+    let (status, _) = carried(rt.alloc(), 10, &[38], 1_000, &[])?;
     assert_eq!(rt; status, Status::Ok);
     Ok(())
 }
@@ -152,15 +135,15 @@ fn each_failing_read_is_answered_with_nothing_written(rt: HostRuntime) -> Result
 #[test]
 fn each_failing_write_leaves_a_front_of_the_report(rt: HostRuntime) -> Result<(), Fail> {
     let alloc = rt.alloc();
-    let (status, written) = replayed(alloc, TRACE.as_bytes(), 65_536, &[], 30, &[])?;
+    let (status, written) = carried(alloc, 65_536, &[], 30, &[])?;
     assert_eq!(rt; status, Status::Write);
     assert_eq!(rt;
         written.as_slice(),
         b"clockbound-report,1\nopen,1,fre".as_slice()
     );
-    // In pieces of seven bytes the report takes 26 calls.
-    for number in 1..27 {
-        let (status, written) = replayed(alloc, TRACE.as_bytes(), 7, &[], 1_000, &[number])?;
+    // In pieces of seven bytes the report takes 28 calls.
+    for number in 1..29 {
+        let (status, written) = carried(alloc, 7, &[], 1_000, &[number])?;
         assert_eq!(rt; status, Status::Write, "call {number}");
         assert!(rt; REPORT.as_bytes().starts_with(&written), "call {number}");
         assert!(rt; written.len() < REPORT.len(), "call {number}");
@@ -180,7 +163,12 @@ fn the_first_refused_line_is_named_with_its_reason(rt: HostRuntime) -> Result<()
             Reason::Number,
         ),
         ("clockbound-trace,1\n", "", 1, Reason::Order),
-        ("clock,1000000000,", "clock,", 2, Reason::Fields),
+        (
+            "clock,1000000000,1700000000000000000,",
+            "clock,",
+            2,
+            Reason::Fields,
+        ),
         ("clock,1000000000,", "clock,-1,", 2, Reason::Number),
         ("poll,06", "poll,0", 3, Reason::Hex),
         ("poll,0602", "pole,0602", 3, Reason::Kind),
@@ -190,7 +178,7 @@ fn the_first_refused_line_is_named_with_its_reason(rt: HostRuntime) -> Result<()
         ("call,1", "page,00", 5, Reason::Page),
     ] {
         let text = TRACE.replace(alloc, from, to)?;
-        let (status, written) = replayed(alloc, text.as_bytes(), 65_536, &[], 1_000, &[])?;
+        let (status, written) = replayed(alloc, text.as_bytes())?;
         assert_eq!(rt; status, refused(line, reason), "{to}");
         assert!(rt; written.is_empty(), "{to}");
     }
@@ -201,60 +189,93 @@ fn the_first_refused_line_is_named_with_its_reason(rt: HostRuntime) -> Result<()
 const REPLY: &str =
     "06020000002100050000000000000000000000010000000000000000a9fea97ba9fea97b0000000000000000000000000001000000040000000000006500000000000000f7ffffff0000000000000000000000000000000000000000ec800000ea80000000000000";
 
-// What is run: `A` stands for the reply, `I` for an image of layout 2 with generation 65,534.
+// What is run: `A` stands for the reply, `I` for an image of layout 2 with generation 65,534, `P` for a start page.
 #[test]
 fn a_run_is_reported_event_by_event(rt: HostRuntime) -> Result<(), Fail> {
     let alloc = rt.alloc();
     let cases = [
         (
-            "a stop after five stores",
-            "clock,1000000000,1700000000000000000\npoll,A\npoll,A,5\ncall,1\npoll,A\ncall,1\n",
-            "open,1,fresh,0
-pub,1,1,2,1,0,1,synchronized,1000000000,244142,0,1
-stop,2,5
-ans,1,1,busy,10,3,3
-open,3,torn,3
-pub,2,3,4,1,0,1,synchronized,1000000000,244142,0,3
-ans,1,2,time,4,1,0,synchronized,1699999999999755858,1700000000000244142
-total,2,2,1,0,1,0,0
-",
-        ),
-        (
-            "a publication within the only try",
-            "clock,1000000000,1700000000000000000\npoll,A\npoll,A\ncall,1,1\ndo,d,1\nrun,c1,1\ndo,d,1\n",
-            "open,1,fresh,0
-pub,1,1,2,1,0,1,synchronized,1000000000,244142,0,1
-pub,2,2,4,1,0,1,synchronized,1000000000,244142,0,2
-ans,1,1,busy,1,2,4
-total,2,1,0,0,0,0,0
-",
-        ),
-        (
-            "a record moved to layout 3 under a reader",
-            "set,layout,3\nimage,I\nclock,2000000000,1700000001000000000\ncall,1,1\npoll,A\ncall,1\nrun,c1,3\nrun,d,11\ndo,c1,1\n",
-            "ans,1,1,busy,1,65534,65535
+            "an image's record vouches for nothing",
+            "image,I\nclock,2000000000,1700000001000000000\ncall,1\npoll,A\ncall,1\n",
+            "ans,1,1,time,65534,1,0,synchronized,1700000000999705858,1700000001000294142
 open,1,kept,65534
-moved,1,32768,65536
-pub,32769,1,65538,1,0,1,synchronized,2000000000,244142,0,1
-ans,1,2,time,65538,1,0,synchronized,1700000000999755858,1700000001000244142
-total,1,2,1,0,1,0,0
+pub,32768,1,2,1,0,1,synchronized,2000000000,244142,0,1
+ans,1,2,time,2,1,0,synchronized,1700000000999755858,1700000001000244142
+total,1,2,2,0,2,0,0
+premises,failed,1,1,image,0
 ",
         ),
         (
-            "nothing published",
-            "clock,1000000000,1700000000000000000\ncall,1\n",
-            "ans,1,1,notinit\ntotal,0,1,0,0,0,0,0\n",
+            "a mark that comes too late",
+            "page,P\nclock,1000000000,1700000000000000000,1700000000000000000\npoll,A\ndisrupt\nclock,2000000000,1700000001000000000,1700000001005000000\ncall,1\nmark,8\n",
+            "open,1,fresh,0
+pub,1,1,2,1,0,1,synchronized,1000000000,244142,7,1
+ans,1,1,time,2,2,0,synchronized,1700000000999705858,1700000001000294142
+total,1,1,1,0,1,0,0
+premises,failed,1,1,mark,2
+",
+        ),
+        (
+            "a disruption that the daemon knew of",
+            "page,P\nclock,1000000000,1700000000000000000,1700000000000000000\ndisrupt\nmark,8\npoll,A\nclock,2000000000,1700000001000000000,1700000001005000000\ncall,1\n",
+            "open,1,fresh,0
+pub,1,1,2,1,1,1,synchronized,1000000000,244142,8,1
+ans,1,1,time,2,2,1,synchronized,1700000000999705858,1700000001000294142
+total,1,1,1,0,1,0,0
+premises,failed,1,1,drift,2
+",
         ),
     ];
     for (name, lines, told) in cases {
         let lines = lines.replace(alloc, "A", REPLY)?;
         let lines = lines.replace(alloc, "I", IMAGE)?;
+        let lines = lines.replace(alloc, "P", PAGE)?;
         let text = format!(in alloc; "clockbound-trace,1\n{lines}")?;
         let report = format!(in alloc; "clockbound-report,1\n{told}")?;
-        let (status, written) = replayed(alloc, text.as_bytes(), 65_536, &[], 1_000, &[])?;
+        let (status, written) = replayed(alloc, text.as_bytes())?;
         assert_eq!(rt; status, Status::Ok, "{name}");
         assert_eq!(rt; written.as_slice(), report.as_bytes(), "{name}");
     }
+    Ok(())
+}
+
+// A source whose first read fails: a drill reads nothing.
+#[test]
+fn a_generated_day_is_told(rt: HostRuntime) -> Result<(), Fail> {
+    for (words, told) in [
+        (
+            ["drill", "0", "600"].as_slice(),
+            "drill,0,600\ntotal,599,1800,1797,0,1791,0,6\npremises,held\n",
+        ),
+        (
+            ["drill", "007", "00000000000000000006"].as_slice(),
+            "drill,7,6\ntotal,5,18,3,0,3,0,0\npremises,held\n",
+        ),
+        (
+            ["drill", "18446744073709551615", "6"].as_slice(),
+            "drill,18446744073709551615,6\ntotal,5,18,7,0,4,0,3\npremises,held\n",
+        ),
+    ] {
+        let (status, written) = served(rt.alloc(), words, &[], 7, &[1], 1_000, &[])?;
+        assert_eq!(rt; status, Status::Ok, "{told}");
+        assert_eq!(rt; written.as_slice(), told.as_bytes(), "{told}");
+    }
+    Ok(())
+}
+
+// The polls of a day differ in sequence, reference time and correction.
+#[test]
+fn a_generated_day_is_written(rt: HostRuntime) -> Result<(), Fail> {
+    let alloc = rt.alloc();
+    let words = ["drill", "0", "6", "--trace"].as_slice();
+    let (status, written) = served(alloc, words, &[], 65_536, &[1], 10_000, &[])?;
+    let reply = REPLY.replace(alloc, "650000000", "650000010")?;
+    let reply = reply.replace(alloc, "f7ffffff", "f0047708")?;
+    let first = format!(in alloc;
+        "clockbound-trace,1\npage,{PAGE}\nclock,1000000000,1700000001000000000,1700000001000007609\npoll,{reply}\ncall,1\n"
+    )?;
+    assert_eq!(rt; status, Status::Ok);
+    assert!(rt; written.as_slice().starts_with(first.as_bytes()));
     Ok(())
 }
 
@@ -287,14 +308,9 @@ fn pages_and_clocks_are_judged(rt: HostRuntime) -> Result<(), Fail> {
             "",
         ),
     ] {
-        let text = List::from_vec(text.as_bytes().to_vec(alloc)?);
-        let mut source = MemSource::new(text, 7, List::from_vec(Vec::new(alloc)));
-        let Ok(mut sink) = MemSink::new(alloc, 100, 7, List::from_vec(Vec::new(alloc))) else {
-            return Err(Fail::from("there is memory"));
-        };
-        let found = serve(alloc, &words(alloc, &[word])?, &mut source, &mut sink);
+        let (found, written) = served(alloc, &[word], text.as_bytes(), 7, &[], 100, &[])?;
         assert_eq!(rt; found, status, "{word}");
-        assert_eq!(rt; sink.bytes(), told.as_bytes(), "{word}");
+        assert_eq!(rt; written.as_slice(), told.as_bytes(), "{word}");
     }
     Ok(())
 }
@@ -304,7 +320,7 @@ fn pages_and_clocks_are_judged(rt: HostRuntime) -> Result<(), Fail> {
 fn the_drift_of_a_trace_is_its_own(rt: HostRuntime) -> Result<(), Fail> {
     let alloc = rt.alloc();
     let text = TRACE.replace(alloc, "trace,1\n", "trace,1\nset,drift,1000000\n")?;
-    let (status, written) = replayed(alloc, text.as_bytes(), 65_536, &[], 1_000, &[])?;
+    let (status, written) = replayed(alloc, text.as_bytes())?;
     let report = REPORT.replace(
         alloc,
         "1700000002499630858,1700000002500369142",
@@ -312,6 +328,47 @@ fn the_drift_of_a_trace_is_its_own(rt: HostRuntime) -> Result<(), Fail> {
     )?;
     assert_eq!(rt; status, Status::Ok);
     assert_eq!(rt; written.as_slice(), report.as_bytes());
+    Ok(())
+}
+
+// Row by row: an interval of the year 2023, one that 1970 begins in, and an answer without one. The texts are those of
+// `date -u` for the seconds, with the nanoseconds after them.
+#[test]
+fn civil_times_follow_earliest_and_latest(rt: HostRuntime) -> Result<(), Fail> {
+    let alloc = rt.alloc();
+    let at_1970 = TRACE.replace(alloc, "1000000000,1700000000000000000", "1000000000,0")?;
+    let at_1970 = at_1970.replace(alloc, "3500000000,1700000002500000000", "1000000000,0")?;
+    for (trace, report) in [
+        (
+            TRACE,
+            "clockbound-report,1
+open,1,fresh,0
+pub,1,1,2,1,0,1,synchronized,1000000000,244142,0,1
+ans,1,1,time,2,2,0,synchronized,1700000002499630858,1700000002500369142,2023-11-14T22:13:22.499630858Z,2023-11-14T22:13:22.500369142Z
+total,1,1,1,0,1,0,0
+premises,held
+",
+        ),
+        (
+            at_1970.as_str(),
+            "clockbound-report,1
+open,1,fresh,0
+pub,1,1,2,1,0,1,synchronized,1000000000,244142,0,1
+ans,1,1,time,2,2,0,synchronized,-244142,244142,1969-12-31T23:59:59.999755858Z,1970-01-01T00:00:00.000244142Z
+total,1,1,1,0,1,0,0
+premises,failed,1,1,bound,1
+",
+        ),
+        (
+            "clockbound-trace,1\nclock,1000000000,1700000000000000000\ncall,1\n",
+            "clockbound-report,1\nans,1,1,notinit\ntotal,0,1,0,0,0,0,0\npremises,held\n",
+        ),
+    ] {
+        let words = ["replay", "--civil"].as_slice();
+        let (status, written) = served(alloc, words, trace.as_bytes(), 7, &[], 1_000, &[])?;
+        assert_eq!(rt; status, Status::Ok);
+        assert_eq!(rt; written.as_slice(), report.as_bytes());
+    }
     Ok(())
 }
 
@@ -323,7 +380,7 @@ fn the_input_ends_at_its_limit(rt: HostRuntime) -> Result<(), Fail> {
     ] {
         let alloc = rt.alloc();
         let feeds = vec![in alloc; b'\n'; len]?;
-        let (status, written) = replayed(alloc, &feeds, 65_536, &[], 10, &[])?;
+        let (status, written) = served(alloc, &["replay"], &feeds, 65_536, &[], 10, &[])?;
         assert_eq!(rt; status, want, "{len} line feeds");
         assert!(rt; written.is_empty(), "{len} line feeds");
     }
@@ -347,20 +404,10 @@ fn a_message_is_decoded(rt: HostRuntime) -> Result<(), Fail> {
         ("image", "", refused(1, Reason::Hex), ""),
         ("page", "0g", refused(1, Reason::Hex), ""),
     ] {
-        let digits = List::from_vec(digits.as_bytes().to_vec(alloc)?);
-        let none = List::from_vec(Vec::new(alloc));
-        let mut source = MemSource::new(digits, 7, none);
-        let Ok(mut sink) = MemSink::new(alloc, 100, 7, List::from_vec(Vec::new(alloc))) else {
-            return Err(Fail::from("there is memory"));
-        };
-        let found = serve(
-            alloc,
-            &words(alloc, &["decode", what])?,
-            &mut source,
-            &mut sink,
-        );
+        let words = ["decode", what];
+        let (found, written) = served(alloc, &words, digits.as_bytes(), 7, &[], 100, &[])?;
         assert_eq!(rt; found, status, "decode {what}");
-        assert_eq!(rt; sink.bytes(), text.as_bytes(), "decode {what}");
+        assert_eq!(rt; written.as_slice(), text.as_bytes(), "decode {what}");
     }
     Ok(())
 }
@@ -375,18 +422,25 @@ fn the_first_refused_word_is_named(rt: HostRuntime) -> Result<(), Fail> {
         (["--help"].as_slice(), 1),
         (["Replay"].as_slice(), 1),
         (["replay", "replay", "replay"].as_slice(), 2),
+        (["replay", "civil"].as_slice(), 2),
+        (["replay", "--civil", "--civil"].as_slice(), 3),
         (["decode"].as_slice(), 2),
         (["decode", "record"].as_slice(), 2),
         (["decode", "reply", "page"].as_slice(), 3),
         (["pagetime", "x"].as_slice(), 2),
         (["agree", "x"].as_slice(), 2),
+        (["drill"].as_slice(), 2),
+        (["drill", "x", "6"].as_slice(), 2),
+        (["drill", "18446744073709551616", "6"].as_slice(), 2),
+        (["drill", "1"].as_slice(), 3),
+        (["drill", "0", "5"].as_slice(), 3),
+        (["drill", "0", "20001"].as_slice(), 3),
+        (["drill", "0", "000000000000000000006"].as_slice(), 3),
+        (["drill", "0", "6", "--x"].as_slice(), 4),
+        (["drill", "0", "6", "--trace", "x"].as_slice(), 5),
     ] {
-        let none = List::from_vec(Vec::new(alloc));
-        let mut source = MemSource::new(List::from_vec(Vec::new(alloc)), 1, none);
-        let Ok(mut sink) = MemSink::new(alloc, 10, 10, List::from_vec(Vec::new(alloc))) else {
-            return Err(Fail::from("there is memory"));
-        };
-        let status = serve(alloc, &words(alloc, given)?, &mut source, &mut sink);
+        let (status, written) = served(alloc, given, &[], 1, &[1], 100, &[])?;
+        assert!(rt; written.is_empty());
         assert_eq!(rt; status, Status::Usage(number));
     }
     Ok(())

@@ -1,13 +1,19 @@
 //! The command that the words of a command line name.
-ghost use Rattle.std.specs.Prelude.{◌≡◌, map};
+ghost use Rattle.std.specs.Prelude.{◌≡◌, ◌≤◌, map, IfOk, IfSome};
 ghost use Rattle.std.specs.String.{string_bytes};
-ghost use Rattle.bound_cli.specs.Command.{alone, command_of, decode_of};
+ghost use Rattle.drill_day.specs.declared.limits.TheConstants.{FEWEST_DAY_POLLS, MOST_DAY_POLLS};
+ghost use Rattle.bound_cli.specs.Command.{alone, command_of, decode_of, drill_for, drill_from, drill_of, replay_of, IsAllowed};
 
 use crate::command::Command;
+use crate::times::Times;
 use decode_text::What;
+use drill_day::{FEWEST_DAY_POLLS, MOST_DAY_POLLS};
+use trace_reader::number;
 
 fn alone(command: Command, next: u32, words: &[String]) -> Result<Command, u32>
-    ensures { result ≡ alone command next (map string_bytes words.now) }
+    requires { IsAllowed command }
+    ensures allowed { IfOk result IsAllowed }
+    ensures command { result ≡ alone command next (map string_bytes words.now) }
 {
     if words.is_empty() {
         Ok(command)
@@ -16,8 +22,24 @@ fn alone(command: Command, next: u32, words: &[String]) -> Result<Command, u32>
     }
 }
 
+fn replay_named(words: &[String]) -> Result<Command, u32>
+    ensures allowed { IfOk result IsAllowed }
+    ensures command { result ≡ replay_of (map string_bytes words.now) }
+{
+    match words {
+        [] => Ok(Command::Replay(Times::Nanoseconds)),
+        [option, others @ ..] => {
+            if option.as_str() == "--civil" {
+                return alone(Command::Replay(Times::Civil), 3, others);
+            }
+            Err(2)
+        }
+    }
+}
+
 fn decode_named(words: &[String]) -> Result<Command, u32>
-    ensures { result ≡ decode_of (map string_bytes words.now) }
+    ensures allowed { IfOk result IsAllowed }
+    ensures command { result ≡ decode_of (map string_bytes words.now) }
 {
     match words {
         [] => Err(2),
@@ -36,16 +58,68 @@ fn decode_named(words: &[String]) -> Result<Command, u32>
     }
 }
 
+fn drill_for(seed: u64, polls: Option<u64>, words: &[String]) -> Result<Command, u32>
+    requires few { IfSome polls (λ polls. FEWEST_DAY_POLLS ≤ polls) }
+    requires many { IfSome polls (λ polls. polls ≤ MOST_DAY_POLLS) }
+    ensures allowed { IfOk result IsAllowed }
+    ensures command { result ≡ drill_for seed polls (map string_bytes words.now) }
+{
+    let Some(polls) = polls else {
+        return Err(3);
+    };
+    let polls = polls as u32;
+    match words {
+        [] => Ok(Command::Drill { seed, polls }),
+        [option, others @ ..] => {
+            if option.as_str() == "--trace" {
+                return alone(Command::DrillTrace { seed, polls }, 5, others);
+            }
+            Err(4)
+        }
+    }
+}
+
+fn drill_from(seed: Option<u64>, words: &[String]) -> Result<Command, u32>
+    ensures allowed { IfOk result IsAllowed }
+    ensures command { result ≡ drill_from seed (map string_bytes words.now) }
+{
+    let Some(seed) = seed else {
+        return Err(2);
+    };
+    match words {
+        [] => Err(3),
+        [polls, others @ ..] => {
+            let polls = number(
+                polls.as_bytes(),
+                FEWEST_DAY_POLLS.into(),
+                MOST_DAY_POLLS.into(),
+            );
+            drill_for(seed, polls, others)
+        }
+    }
+}
+
+fn drill_named(words: &[String]) -> Result<Command, u32>
+    ensures allowed { IfOk result IsAllowed }
+    ensures command { result ≡ drill_of (map string_bytes words.now) }
+{
+    match words {
+        [] => Err(2),
+        [seed, others @ ..] => drill_from(number(seed.as_bytes(), 0, u64::MAX), others),
+    }
+}
+
 /// The command, or the number of the first word that isn't allowed.
 #[tactic(auto, unfolding(crate::specs::Command::command_of))]
 pub fn command_named(words: &[String]) -> Result<Command, u32>
-    ensures { result ≡ command_of (map string_bytes words.now) }
+    ensures allowed { IfOk result IsAllowed }
+    ensures command { result ≡ command_of (map string_bytes words.now) }
 {
     match words {
         [] => Err(1),
         [first, others @ ..] => {
             if first.as_str() == "replay" {
-                return alone(Command::Replay, 2, others);
+                return replay_named(others);
             }
             if first.as_str() == "decode" {
                 return decode_named(others);
@@ -55,6 +129,9 @@ pub fn command_named(words: &[String]) -> Result<Command, u32>
             }
             if first.as_str() == "agree" {
                 return alone(Command::Agree, 2, others);
+            }
+            if first.as_str() == "drill" {
+                return drill_named(others);
             }
             Err(1)
         }

@@ -1,0 +1,26 @@
+-- What a report is worth: of a trace, what holds of every client's answers in its run; of a generated day, that its promises are kept.
+use Rattle.std.specs.Prelude.{◌≡◌, ℕ, reverse}
+use Rattle.clock_gate.specs.declared.trace.Trace.{Trace}
+use Rattle.step_core.specs.AnswerLaws.{EachAnswer, HasFailedAll, HasStatus}
+use Rattle.step_core.specs.RunLaws.{AreAnswers, NeverFall, positions_of}
+use Rattle.step_core.specs.RunWhole.{run_of}
+use Rattle.drill_day.specs.Day.{day_of}
+use Rattle.run_promises.specs.Judged.{premises_of, EachTrusted, KeepsPromise}
+use Rattle.run_promises.specs.declared.premises.Premises.TheVariants.{Held}
+
+pub record IsServed (trace : Trace) : Type 0 where
+  -- each interval comes from one whole published record, where fewer publications than the layout's period fall within its read
+  pub whole : AreAnswers trace (run_of trace).segment (run_of trace).events
+  -- and from none older than its client had seen
+  pub rises : (client : ℕ) → NeverFall (positions_of client (run_of trace).events)
+  -- called Synchronized or Free Running it contains true time, where reply, drift and marks kept their promises
+  pub truth : EachTrusted (KeepsPromise trace) (reverse (run_of trace).events)
+  -- with fewer of them, an unabsorbed mark (a disrupted record, or another marker than the page's) makes it Disrupted, and from
+  -- void-after on it isn't Synchronized or Free Running
+  pub marked : EachAnswer (HasStatus trace (run_of trace).segment) (run_of trace).events
+  -- Busy means that every try met an odd or changed generation
+  pub busy : EachAnswer (HasFailedAll trace (run_of trace)) (run_of trace).events
+
+-- in the run of a generated day each promise is kept
+abbrev pub DayHolds : (seed polls : ℕ) → Type 0
+DayHolds seed polls = premises_of (day_of seed polls) (run_of (day_of seed polls)).events ≡ Held

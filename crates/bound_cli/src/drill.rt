@@ -1,0 +1,63 @@
+//! A generated day: what its report comes to.
+ghost use Rattle.std.specs.Prelude.{◌≡◌, ◌≤◌, ◌++◌, IfOk, OnOk};
+ghost use Rattle.std.specs.String.{string_bytes};
+ghost use Rattle.drill_day.specs.declared.limits.TheConstants.{FEWEST_DAY_POLLS, MOST_DAY_POLLS};
+ghost use Rattle.drill_day.specs.Day.{day_of};
+ghost use Rattle.step_core.specs.SharedReady.{CanRun};
+ghost use Rattle.bound_cli.specs.Drill.{drill_line, drill_report, summary_of};
+
+use crate::report::put_summary;
+use clock_gate::{Memory, Trace};
+use drill_day::drill_trace;
+use std::alloc::{AllocError, Global};
+use step_core::World;
+
+// Room for three lines.
+const ROOM: usize = 192;
+
+#[tactic(auto, unfolding(crate::specs::Drill::drill_line))]
+fn put_drill(text: &mut String, seed: u64, polls: u32) -> Result<(), AllocError>
+    ensures { OnOk result (string_bytes text.new ≡ string_bytes text.old ++ drill_line seed polls) }
+{
+    write!(text, "drill,{seed},{polls}\n")
+}
+
+// The end of the report of a trace's run.
+fn put_summary_of(alloc: Global, text: &mut String, trace: &Trace) -> Result<(), AllocError>
+    requires { CanRun trace.now }
+    ensures { OnOk result (string_bytes text.new ≡ string_bytes text.old ++ summary_of trace.now) }
+{
+    let mut world = match World::new(alloc, trace) {
+        Ok(world) => world,
+        Err(Memory) => return Err(AllocError),
+    };
+    world.run();
+    put_summary(alloc, text, trace, world.events())
+}
+
+fn day(alloc: Global, seed: u64, polls: u32) -> Result<Trace, AllocError>
+    requires few { FEWEST_DAY_POLLS ≤ polls }
+    requires many { polls ≤ MOST_DAY_POLLS }
+    ensures day { IfOk result (λ trace. trace ≡ day_of seed polls) }
+    ensures can { IfOk result CanRun }
+{
+    match drill_trace(alloc, seed, polls) {
+        Ok(trace) => Ok(trace),
+        Err(Memory) => Err(AllocError),
+    }
+}
+
+/// What is told of the day with this seed and this number of polls: the two numbers, the counts of its report, and whether its promises
+/// were kept.
+#[tactic(auto, unfolding(crate::specs::Drill::drill_report))]
+pub fn drilled(alloc: Global, seed: u64, polls: u32) -> Result<String, AllocError>
+    requires few { FEWEST_DAY_POLLS ≤ polls }
+    requires many { polls ≤ MOST_DAY_POLLS }
+    ensures { IfOk result (λ text. string_bytes text ≡ drill_report seed polls) }
+{
+    let trace = day(alloc, seed, polls)?;
+    let mut text = String::with_capacity(alloc, ROOM)?;
+    put_drill(&mut text, seed, polls)?;
+    put_summary_of(alloc, &mut text, &trace)?;
+    Ok(text)
+}
