@@ -1,6 +1,7 @@
 #!/usr/bin/env bash
-# run.sh [PROGRAM]..: the best of five runs of each case, in milliseconds of wall time. A PROGRAM has clockbound's command line; without
-# one the built program is measured (crates/clockbound/out/clockbound, which README's first command makes).
+# run.sh [PROGRAM [OTHER]]: the best of five runs of each case, in milliseconds of processor time, the system's with it, and where
+# another program is given the ratio of the two. Both have clockbound's command line; without one the built program is measured
+# (crates/clockbound/out/clockbound, which README's first command makes).
 set -eu
 top=$(cd "$(dirname "$0")/.." && pwd)
 [ $# -gt 0 ] || set -- "$top/crates/clockbound/out/clockbound"
@@ -10,31 +11,49 @@ trap 'rm -rf "$work"' EXIT
 head -c 16777216 /dev/zero | tr '\0' '\n' > "$work/feeds.txt"
 reply=$(cat "$top/examples/steady-reply.hex")
 yes "$reply" | tr -d '\n' | head -c 16777216 > "$work/digits.txt"
-for text in reads spans turns lines calls; do
+for text in reads spans turns lines calls polls; do
     "$top/bench/texts.py" "$text" > "$work/$text.txt"
 done
 
-# best PROGRAM INPUT WORDS..
-best() {
-    local program=$1 input=$2 least=999999 start end
+# spent PROGRAM INPUT WORDS..
+spent() {
+    local program=$1 input=$2 TIMEFORMAT='%3U %3S'
     shift 2
-    for _ in 1 2 3 4 5; do
-        start=$(date +%s%N)
-        "$program" "$@" < "$input" > "$work/out" 2> "$work/err" || true
-        end=$(date +%s%N)
-        [ $(((end - start) / 1000000)) -lt $least ] && least=$(((end - start) / 1000000))
-    done
-    printf '%6d ms  %-44s %s\n' "$least" "$name" "$program"
+    { time "$program" "$@" < "$input" > "$work/out" 2> "$work/err" || true; } 2>&1 | awk '{ printf "%d", 1000 * ($1 + $2) + 0.5 }'
 }
 
-for program in "$@"; do
-    name="replay of a real reply" best "$program" "$top/examples/steady.trace" replay
-    name="replay, refused: 16 MiB of line feeds" best "$program" "$work/feeds.txt" replay
-    name="replay, 50,000,000 turns of two clients" best "$program" "$work/turns.txt" replay
-    name="replay, 49,999,950 turns in 999,999 lines" best "$program" "$work/lines.txt" replay
-    name="replay, 100,000 polls and 300,000 calls" best "$program" "$work/calls.txt" replay
-    name="decode reply, one reply" best "$program" "$top/examples/steady-reply.hex" decode reply
-    name="decode reply, 16 MiB of digits" best "$program" "$work/digits.txt" decode reply
-    name="pagetime, 299,999 reads" best "$program" "$work/reads.txt" pagetime
-    name="agree, 299,000 changes, 1,000 questions" best "$program" "$work/spans.txt" agree
-done
+# best NAME INPUT WORDS..: the programs take turns, so that what else the machine does meets each of them.
+best() {
+    local name=$1 now
+    local -A least
+    shift
+    for _ in 1 2 3 4 5; do
+        for program in "${programs[@]}"; do
+            now=$(spent "$program" "$@")
+            [ "$now" -lt "${least[$program]:-999999}" ] && least[$program]=$now
+        done
+    done
+    printf '%-46s' "$name"
+    for program in "${programs[@]}"; do
+        printf '%6d ms' "${least[$program]}"
+    done
+    [ ${#programs[@]} -lt 2 ] || awk -v a="${least[${programs[0]}]}" -v b="${least[${programs[1]}]}" 'BEGIN { printf "%8.2f", a / (b ? b : 1) }'
+    printf '\n'
+}
+
+programs=("$@")
+best "replay of a real reply" "$top/examples/steady.trace" replay
+best "replay, refused: 16 MiB of line feeds" "$work/feeds.txt" replay
+best "drill 1 20000" /dev/null drill 1 20000
+"${programs[0]}" drill 1 20000 --trace > "$work/day.txt"
+best "drill 1 20000 --trace" /dev/null drill 1 20000 --trace
+best "replay of that day" "$work/day.txt" replay
+best "replay --civil of that day" "$work/day.txt" replay --civil
+best "replay, 20,000 polls and their calls" "$work/polls.txt" replay
+best "replay, 50,000,000 turns of two clients" "$work/turns.txt" replay
+best "replay, 49,999,950 turns in 999,999 lines" "$work/lines.txt" replay
+best "replay, 100,000 polls and 300,000 calls" "$work/calls.txt" replay
+best "decode reply, one reply" "$top/examples/steady-reply.hex" decode reply
+best "decode reply, 16 MiB of digits" "$work/digits.txt" decode reply
+best "pagetime, 299,999 reads" "$work/reads.txt" pagetime
+best "agree, 299,000 changes, 1,000 questions" "$work/spans.txt" agree

@@ -1,7 +1,8 @@
 #!/usr/bin/env python3
 """texts.py NAME: a text for a measure, on standard output: `reads`, 299,999 readings of one page; `spans`, 299,000 changes of the spans
 of 1,000 servers with 1,000 questions among them; `turns`, 50,000,000 turns of two clients whose calls meet an update that never ends;
-`lines`, 49,999,950 turns in 999,999 lines, most of them of parties without a job; `calls`, 100,000 polls and 300,000 calls."""
+`lines`, 49,999,950 turns in 999,999 lines, most of them of parties without a job; `calls`, 100,000 polls and 300,000 calls; `polls`, 20,000
+polls, each with its clock row and three calls, and 800,000 lines of any party's turns."""
 import pathlib
 import random
 import sys
@@ -52,6 +53,19 @@ def calls():
             yield f"call,{client}"
 
 
+def polls():
+    draw = random.Random(1)
+    yield "clockbound-trace,1"
+    yield f"page,{PAGE}"
+    for k in range(1, 20_001):
+        yield f"clock,{k * 10**9},{1700000000 * 10**9 + k * 10**9}"
+        yield f"poll,{REPLY}"
+        for client in range(1, 4):
+            yield f"call,{client}"
+    for _ in range(800_000):
+        yield f"run,{draw.choice(['h', 'd', 'c1', 'c2', 'c3'])},{draw.randint(1, 20)}"
+
+
 def lines():
     yield "clockbound-trace,1"
     yield f"clock,{10**12},{1700000000 * 10**9}"
@@ -61,7 +75,7 @@ def lines():
 
 
 def main():
-    for line in {"reads": reads, "spans": spans, "turns": turns, "calls": calls, "lines": lines}[sys.argv[1]]():
+    for line in {"reads": reads, "spans": spans, "turns": turns, "calls": calls, "lines": lines, "polls": polls}[sys.argv[1]]():
         print(line)
 
 
