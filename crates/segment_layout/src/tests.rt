@@ -34,6 +34,7 @@ fn an_image_is_read_and_its_record_written(rt: HostRuntime) -> Result<(), Fail> 
     let words = image_words(&IMAGE);
     assert_eq!(rt; admit(&words, Layout::Two), Ok(Start::Kept(65_534, rec)));
     assert_eq!(rt; to_words(&rec, Layout::Two, 65_534), words);
+    assert_eq!(rt; data_word(&rec, 8), 0x1_0000_c350);
     assert_eq!(rt; Start::Kept(65_534, rec).generation(), 65_534);
     Ok(())
 }

@@ -44,6 +44,25 @@ fn words_under(header: u64, rec: &Record) -> [u64; 10]
     ]
 }
 
+/// One word of a record by its number, from 2 to 9: as `to_words` has it under any header, without the other words.
+pub fn data_word(rec: &Record, number: u8) -> u64
+    requires first { 2 ≤ number }
+    requires last { number ≤ 9 }
+    ensures value { result ≡ slice_index (record_words 0 rec.now) number }
+    ensures good { IsGoodWord number result }
+{
+    match number {
+        2 => seconds_word(rec.as_of()),
+        3 => nanos_word(rec.as_of()),
+        4 => seconds_word(rec.void_after()),
+        5 => nanos_word(rec.void_after()),
+        6 => rec.bound() as u64,
+        7 => rec.marker(),
+        8 => drift_and_status(rec.drift(), rec.status()),
+        _ => u64::from(rec.support()),
+    }
+}
+
 fn seconds_word(moment: Stamp) -> u64
     requires low { pos 0 ≤ℤ moment }
     requires high { moment ≤ℤ pos 4000001000999999999 }
