@@ -10,7 +10,7 @@ ghost use Rattle.shm_writer.specs.Publisher.{new_publishing, publishing_act, pub
 
 use clock_gate::Act;
 use generation_word::{Layout, next_pair, word1};
-use segment_layout::{Record, to_words};
+use segment_layout::{Record, data_word};
 use std::marker::Model;
 
 /// The publication of one record as a step machine: ten stores, and then the end.
@@ -63,7 +63,7 @@ impl Publisher {
             0 => Act::Store(1, self.odd_header()),
             9 => Act::Store(1, self.even_header()),
             10 => Act::End,
-            made => Act::Store(made + 1, self.data_word(made + 1)),
+            made => Act::Store(made + 1, data_word(&self.rec, made + 1)),
         }
     }
 
@@ -103,15 +103,5 @@ impl Publisher {
         ensures { result ≡ word1_of self.now.layout (even_after (period_of self.now.layout) self.now.generation) }
     {
         word1(self.layout, self.even())
-    }
-
-    // A word of the record by its number, from 2 to 9.
-    fn data_word(&self, number: u8) -> u64
-        requires first { 2 ≤ number }
-        requires last { number < 10 }
-        ensures value { result ≡ slice_index (record_words 0 self.now.rec) number }
-        ensures good { IsGoodWord number result }
-    {
-        to_words(&self.rec, self.layout, self.generation)[usize::from(number)]
     }
 }
