@@ -273,6 +273,16 @@ impl NowMachine {
         give_stage(&mut self.stage, self.tries, self.support, value, clock);
     }
 
+    /// Whether no load comes next: exactly where `next` is `End`.
+    pub fn has_ended(&self) -> bool
+        ensures { IsTrue result ↔ (act_of self.now ≡ Act.End) }
+    {
+        match &self.stage {
+            Stage::Done(_) => true,
+            Stage::Segment(_) | Stage::Clock { .. } | Stage::Page { .. } => false,
+        }
+    }
+
     /// What the call has come to: `None` exactly while a load comes next.
     pub fn end(&self) -> Option<Answer>
         ensures value { result ≡ end_of self.now }

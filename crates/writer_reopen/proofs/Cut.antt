@@ -17,7 +17,7 @@ use Rattle.writer_reopen.specs.declared.stage.Taken.{Taken}
 use Rattle.writer_reopen.specs.Progress.{Ends, act_of, end_of, in_order}
 use Rattle.writer_reopen.specs.Poll.{stores_until, polled_by, storing_of}
 use Rattle.writer_reopen.specs.PollMachine.{IsUpdate}
-use Rattle.writer_reopen.proofs.InOrder.{act_of-in_order}
+use Rattle.writer_reopen.proofs.InOrder.{NoEnd, ended_past, act_of-in_order, store_goes_on}
 
 -- ---- acts in their order, by how many were done
 
@@ -73,6 +73,26 @@ act_at_stop order taken update stop =
     let cut : stores_until order.stop all ≡ take update.made all = ap (λ (s : Option ℕ). stores_until s all) stop in
     ap (λ (acts : List Act). act_of (in_order acts (polled_by order.stop taken) update.made)) cut
     ∙ ap act_of (at_stop update.made update.made all (polled_by order.stop taken) (omega arith))
+
+-- after the tenth store, and not before, no further one is wanted
+all_stores : (order : Order) (taken : Taken) → NoEnd (stores taken.publication.rec order.layout order.generation)
+all_stores order taken =
+    (store_goes_on _ _, (store_goes_on _ _, (store_goes_on _ _, (store_goes_on _ _, (store_goes_on _ _,
+    (store_goes_on _ _, (store_goes_on _ _, (store_goes_on _ _, (store_goes_on _ _, (store_goes_on _ _, tt))))))))))
+
+pub act_after_ten : (order : Order) (taken : Taken) (update : Publishing) → IsUpdate order taken update → order.stop ≢ Some update.made → update.made ≡ MOST_STORES
+    → act_of (storing_of order taken update.made) ≡ End
+act_after_ten order taken update is other ten =
+    let all : List Act = stores taken.publication.rec order.layout order.generation in
+    before_stop order.stop all (polled_by order.stop taken) update.made is.until other ∙ ap (λ (made : ℕ). slice_index_or all made End) ten
+
+pub act_before_ten : (order : Order) (taken : Taken) (update : Publishing) → IsUpdate order taken update → order.stop ≢ Some update.made → update.made ≢ MOST_STORES
+    → act_of (storing_of order taken update.made) ≢ End
+act_before_ten order taken update is other more = λ ended.
+    let all : List Act = stores taken.publication.rec order.layout order.generation in
+    let past : 10 ≤ update.made = ended_past all update.made (all_stores order taken) (sym (before_stop order.stop all (polled_by order.stop taken) update.made is.until other) ∙ ended) in
+    let most = is.most in
+    absurd (more (omega (arith, past, most)))
 
 ten_stores : (order : Order) (taken : Taken) → length (stores taken.publication.rec order.layout order.generation) ≡ 10
 ten_stores order taken = refl

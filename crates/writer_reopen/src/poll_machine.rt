@@ -1,4 +1,4 @@
-ghost use Rattle.std.specs.Prelude.{◌≡◌, ◌≢◌, ◌↔◌, ◌+◌, ◌*◌, ◌<◌, ◌≤◌, length, Some, None, is_some, IsSome, IfSome};
+ghost use Rattle.std.specs.Prelude.{◌≡◌, ◌≢◌, ◌↔◌, ◌+◌, ◌*◌, ◌<◌, ◌≤◌, length, Some, None, is_some, IsTrue, IsSome, IfSome};
 ghost use Rattle.clock_gate.specs.declared.act.Act.TheVariants.{Load, End};
 ghost use Rattle.clock_gate.specs.declared.limits.TheConstants.{MOST_DRIFT, MOST_STORES, MOST_TRIES};
 ghost use Rattle.generation_word.specs.Layout.{period_of};
@@ -13,7 +13,7 @@ use crate::order::Order;
 use crate::polled::Polled;
 use crate::stage::{CLOCK_WORD, Stage};
 use crate::steps::give_stage;
-use crate::storing::{storing_act, storing_end};
+use crate::storing::{storing_act, storing_end, storing_has_ended};
 use clock_gate::{Act, ClockRow};
 use generation_word::Layout;
 use status_machine::{Daemon, Heard};
@@ -105,6 +105,18 @@ impl PollMachine {
     {
         let PollMachine { order, stage } = self;
         give_stage(order, stage, value, clock);
+    }
+
+    /// Whether it wants no further step: exactly where `next` is `End`. No word of the record is made.
+    pub fn has_ended(&self) -> bool
+        ensures { IsTrue result ↔ (polling_act self.now ≡ End) }
+    {
+        match &self.stage {
+            Stage::Asking => false,
+            Stage::Looking(_, reader) => reader.next() == Act::End,
+            Stage::Taking(_, _) => false,
+            Stage::Storing(taken, publisher) => storing_has_ended(&self.order, taken, publisher),
+        }
     }
 
     /// What it came to. `None` exactly while `next` isn't `End`.

@@ -1,5 +1,6 @@
 //! The stores of a poll, cut at the stop.
 ghost use Rattle.std.specs.Prelude.{◌≡◌, ◌↔◌, IsTrue, Some, None, ◌==◌, if◌then◌else◌, IfSome};
+ghost use Rattle.clock_gate.specs.declared.act.Act.TheVariants.{End};
 ghost use Rattle.clock_gate.specs.declared.limits.TheConstants.{MOST_STORES};
 ghost use Rattle.writer_reopen.specs.declared.polled.Polled.TheVariants.{Published, Stopped};
 ghost use Rattle.writer_reopen.specs.Progress.{act_of, end_of};
@@ -23,6 +24,18 @@ pub(crate) fn storing_act(order: &Order, taken: &Taken, publisher: &Publisher) -
         return Act::End;
     }
     publisher.next()
+}
+
+// Whether there is no next store: at the stop, and after the tenth.
+#[tactic(auto, using(crate::proofs::Cut::act_at_stop, crate::proofs::Cut::act_after_ten, crate::proofs::Cut::act_before_ten))]
+pub(crate) fn storing_has_ended(order: &Order, taken: &Taken, publisher: &Publisher) -> bool
+    requires { IsUpdate order.now taken.now publisher.now }
+    ensures { IsTrue result ↔ (act_of (storing_of order.now taken.now publisher.now.made) ≡ End) }
+{
+    if is_stop(order.stop, publisher.done()) {
+        return true;
+    }
+    publisher.done() == MOST_STORES
 }
 
 // What was published, or where the daemon stopped.
