@@ -85,6 +85,13 @@ pub act-of_loaded : (layout : Layout) (xs : List ℕ) (k : ℕ) → k ≤ length
 act-of_loaded layout xs k h =
     sym (act-by_number layout (take k xs) ∙ ap (λ (n : ℕ). slice_index_or (opening_steps layout (slice_index (take k xs) 1)) n End) (length-take-le k xs h) ∙ at_header layout xs k h)
 
+-- the end is wanted exactly once all steps were made
+pub ended_when_past : (layout : Layout) (xs : List ℕ) (k : ℕ) → k ≤ length xs → length (opening_steps layout (slice_index xs 1)) ≤ k → opening_act (record { layout = layout; values = take k xs }) ≡ End
+ended_when_past layout xs k h past = sym (act-of_loaded layout xs k h) ∙ get_or_past (opening_steps layout (slice_index xs 1)) k End past
+
+pub past_when_ended : (layout : Layout) (xs : List ℕ) (k : ℕ) → k ≤ length xs → opening_act (record { layout = layout; values = take k xs }) ≡ End → length (opening_steps layout (slice_index xs 1)) ≤ k
+past_when_ended layout xs k h at_end = ended_past (opening_steps layout (slice_index xs 1)) k (steps_no_end layout (slice_index xs 1)) (act-of_loaded layout xs k h ∙ at_end)
+
 pub ended : (state : OpenerState) → opening_act state ≡ End → opening_of state.layout state.values ≡ Ends (opening_for state.layout state.values)
 ended state at_end = ended_in_order (opening_steps state.layout (slice_index state.values 1)) (opening_for state.layout state.values) (length state.values) (steps_no_end state.layout (slice_index state.values 1)) at_end
 

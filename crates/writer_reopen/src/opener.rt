@@ -1,4 +1,4 @@
-ghost use Rattle.std.specs.Prelude.{◌≡◌, ◌≢◌, ◌+◌, ◌-◌, ◌<◌, ◌≤◌, ◌%◌, [], ◌∷◌, ◌++◌, length, take, slice_index, slice_index_or, IsSome, ◌↔◌};
+ghost use Rattle.std.specs.Prelude.{◌≡◌, ◌≢◌, ◌+◌, ◌-◌, ◌<◌, ◌≤◌, ◌%◌, [], ◌∷◌, ◌++◌, length, take, slice_index, slice_index_or, IsTrue, IsSome, ◌↔◌, if◌then◌else◌};
 ghost use Rattle.clock_gate.specs.Acts.{IsWithin};
 ghost use Rattle.clock_gate.specs.declared.act.Act.TheVariants.{End};
 ghost use Rattle.generation_word.specs.Layout.{period_of};
@@ -62,6 +62,13 @@ impl Opener {
     {
         self.values[usize::from(self.given)] = value;
         self.given += 1;
+    }
+
+    /// Whether it wants no further step: exactly where `next` is `End`. No word is made.
+    pub fn has_ended(&self) -> bool
+        ensures { IsTrue result ↔ (opening_act self.now ≡ End) }
+    {
+        steps_in(self.layout, self.values[1]) <= self.given
     }
 
     /// What it found. `None` exactly while `next` isn't `End`.
@@ -134,6 +141,34 @@ fn later_act(layout: Layout, header: u64, made: u8) -> Act
         return torn_act(old, generation, made);
     }
     kept_act(old, generation, made)
+}
+
+// How many steps an opening takes that meets this header.
+#[tactic(auto, using(crate::proofs::OpeningLaws::fresh_length, crate::proofs::OpeningLaws::torn_length, crate::proofs::OpeningLaws::kept_length))]
+fn steps_in(layout: Layout, header: u64) -> u8
+    ensures { result ≡ length (opening_steps layout header) }
+{
+    let generation = split_word1(header).2;
+    let old = is_old(layout, header);
+    if generation == 0 {
+        return 4;
+    }
+    if generation % 2 == 1 {
+        return torn_count(old);
+    }
+    kept_count(old)
+}
+
+fn torn_count(old: bool) -> u8
+    ensures { result ≡ (if old then 3 else 2) }
+{
+    if old { 3 } else { 2 }
+}
+
+fn kept_count(old: bool) -> u8
+    ensures { result ≡ (if old then 12 else 10) }
+{
+    if old { 12 } else { 10 }
 }
 
 fn is_old(layout: Layout, header: u64) -> bool
