@@ -35,7 +35,7 @@ kind_among kinds field = find (λ kind. bytes_eq field (word_of kind)) kinds
 -- the kind that a first field names
 unfoldable pub plain_kind : List ℕ → Option Kind
 plain_kind field =
-    kind_among (Header ∷ Image ∷ Page ∷ Clock ∷ Mark ∷ Disrupt ∷ Poll ∷ Call ∷ Run ∷ Jobs ∷ []) field
+    kind_among (Run ∷ Jobs ∷ Call ∷ Clock ∷ Poll ∷ Mark ∷ Page ∷ Disrupt ∷ Image ∷ Header ∷ []) field
 
 -- the setting that a second field names
 unfoldable pub setting : List ℕ → Option Kind

@@ -24,18 +24,18 @@ pub enum Kind {
     Jobs,
 }
 
-// Those that the first field names.
+// Those that the first field names, the frequent ones first.
 const PLAIN: [Kind; 10] = [
-    Kind::Header,
-    Kind::Image,
-    Kind::Page,
-    Kind::Clock,
-    Kind::Mark,
-    Kind::Disrupt,
-    Kind::Poll,
-    Kind::Call,
     Kind::Run,
     Kind::Jobs,
+    Kind::Call,
+    Kind::Clock,
+    Kind::Poll,
+    Kind::Mark,
+    Kind::Page,
+    Kind::Disrupt,
+    Kind::Image,
+    Kind::Header,
 ];
 
 // Those that the field after `set` names.
