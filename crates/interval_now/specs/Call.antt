@@ -22,7 +22,7 @@ use Rattle.interval_now.specs.declared.answers.Answer.{Answer}
 use Rattle.interval_now.specs.declared.answers.Answer.TheVariants as answers
 use Rattle.interval_now.specs.declared.stage.Stage.{Stage}
 use Rattle.interval_now.specs.declared.stage.Stage.TheVariants.{Segment, Clock, Page, Done}
-use Rattle.interval_now.specs.Interval.{interval_of}
+use Rattle.interval_now.specs.Interval.{interval_of, KeepsEnds}
 
 -- the tries of each read, whether there is a page, and where the call stands
 pub record Call : Type 0 where
@@ -41,6 +41,21 @@ timed generation row sequence (Err causality) = answers.Causality causality
 -- the answer by a record, a reading of the clock, and the marker and the sequence count of the page, where there is one
 abbrev pub answer_of : ℕ → RecordFields → Reading → Option ℕ → ℕ → Answer
 answer_of generation rec reading marker sequence = timed generation reading.row sequence (interval_of rec reading.mono reading.real marker)
+
+-- the interval of an answer that has one keeps its ends
+abbrev pub AnswerKeepsEnds : Answer → Type 0
+AnswerKeepsEnds (answers.Time time) = KeepsEnds time.interval
+AnswerKeepsEnds (answers.Busy tries first last) = Unit {0}
+AnswerKeepsEnds answers.NotInitialized = Unit {0}
+AnswerKeepsEnds (answers.PageBusy first last) = Unit {0}
+AnswerKeepsEnds (answers.Causality causality) = Unit {0}
+
+-- so does the answer of a call that has ended
+abbrev pub StageKeepsEnds : Stage → Type 0
+StageKeepsEnds (Segment read) = Unit {0}
+StageKeepsEnds (Clock generation rec) = Unit {0}
+StageKeepsEnds (Page generation rec reading read) = Unit {0}
+StageKeepsEnds (Done answer) = AnswerKeepsEnds answer
 
 abbrev pub act_at : Stage → Act
 act_at (Segment read) = segment.act_of read

@@ -1,8 +1,9 @@
 -- What a client makes of a record and a reading of the clock: elapsed time, growth, interval and status.
-use Rattle.std.specs.Prelude.{ℕ, ◌+◌, ◌*◌, ◌≤◌, ℤ, pos, ◌+ℤ◌, ◌-ℤ◌, unsigned_abs, Bool, true, false, not, ◌||◌, ◌==◌, Option, Some, None, Result, Ok, Err, int_lt, if◌then◌else◌}
+use Rattle.std.specs.Prelude.{ℕ, ◌+◌, ◌*◌, ◌^◌, ◌≤◌, ℤ, pos, neg_ℤ, ◌+ℤ◌, ◌-ℤ◌, ◌≤ℤ◌, unsigned_abs, Bool, true, false, not, ◌||◌, ◌==◌, Option, Some, None, Result, Ok, Err, int_lt, if◌then◌else◌}
 use Rattle.std.specs.Int.{div_ceil, int_max}
 use Rattle.clock_gate.specs.declared.clock_status.ClockStatus.{ClockStatus}
 use Rattle.clock_gate.specs.declared.clock_status.ClockStatus.TheVariants.{Unknown, Synchronized, FreeRunning, Disrupted}
+use Rattle.clock_gate.specs.declared.limits.TheConstants.{LAST_MOMENT}
 use Rattle.segment_layout.specs.Record.{RecordFields}
 use Rattle.interval_now.specs.declared.answers.Interval.{Interval}
 use Rattle.interval_now.specs.declared.answers.Causality.{Causality}
@@ -53,3 +54,13 @@ unfoldable pub interval_of : RecordFields → ℕ → ℕ → Option ℕ → Res
 interval_of rec mono real marker =
     if int_lt (pos (mono + 1000)) rec.as_of then Err (record { as_of = rec.as_of; mono = mono })
     else Ok (record { earliest = pos real -ℤ half_width_of rec mono; latest = pos real +ℤ half_width_of rec mono; status = client_status rec mono marker })
+
+-- half the width of an interval is at most this: a record's bound is at most 2^62, and it grows by no more than the time since as-of
+abbrev pub most_half_width : ℕ
+most_half_width = 2 ^ 62 + LAST_MOMENT
+
+-- so its ends, in nanoseconds since 1970-01-01T00:00:00Z, lie from February 1697 to August 2369
+pub record KeepsEnds (interval : Interval) : Type 0 where
+  pub first : neg_ℤ (pos most_half_width) ≤ℤ interval.earliest
+  pub order : interval.earliest ≤ℤ interval.latest
+  pub last : interval.latest ≤ℤ pos (LAST_MOMENT + most_half_width)

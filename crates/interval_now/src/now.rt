@@ -1,5 +1,5 @@
 //! A client call, as a step machine.
-ghost use Rattle.std.specs.Prelude.{◌≡◌, ◌≢◌, ◌≤◌, ◌<◌, ◌+◌, ◌*◌, length, IsNone, IsTrue, IsFalse, Some, None, ◌↔◌};
+ghost use Rattle.std.specs.Prelude.{◌≡◌, ◌≢◌, ◌≤◌, ◌<◌, ◌+◌, ◌*◌, length, IfOk, IfSome, IsNone, IsTrue, IsFalse, Some, None, ◌↔◌};
 ghost use Rattle.clock_gate.specs.declared.limits.TheConstants.{LAST_MOMENT, MOST_TRIES, MOST_HOST_ROWS};
 ghost use Rattle.clock_gate.specs.Acts.{IsLoadWithin};
 ghost use Rattle.clock_gate.specs.ClockRow.{IsClock};
@@ -7,7 +7,8 @@ ghost use Rattle.clock_gate.specs.Tries.{SeqlockRead};
 ghost use Rattle.shm_reader.specs.SegmentTries.{IsGoodLoad};
 ghost use Rattle.shm_reader.specs.SegmentTries as segment;
 ghost use Rattle.vmclock_page.specs.PageRead as page;
-ghost use Rattle.interval_now.specs.Call.{started_call, timed, answer_of, act_of, act_at, end_of, given, after_segment, after_clock, after_page, stage_given, tried, followed, steps_left, IsEarly, IsRowNumber, IsRowAt, TriesOn, HasEnded};
+ghost use Rattle.interval_now.specs.Interval.{KeepsEnds};
+ghost use Rattle.interval_now.specs.Call.{started_call, timed, answer_of, act_of, act_at, end_of, given, after_segment, after_clock, after_page, stage_given, tried, followed, steps_left, IsEarly, IsRowNumber, IsRowAt, TriesOn, HasEnded, AnswerKeepsEnds, StageKeepsEnds};
 
 use crate::answers::{Answer, Causality, Interval, Timed};
 use crate::rule::interval;
@@ -33,18 +34,20 @@ pub struct NowMachine {
 }
 
 impl Model for NowMachine {
-    ghost use Rattle.interval_now.specs.Call.{Call, IsCall};
+    ghost use Rattle.interval_now.specs.Call.{Call, IsCall, StageKeepsEnds};
 
     ghost Value = { Call };
 
     ghost view = { λ m. record { tries = m.tries; support = m.support; stage = m.stage } };
 
-    ghost invariant = { λ m. IsCall (record { tries = m.tries; support = m.support; stage = m.stage }) };
+    ghost invariant = { λ m. IsCall (record { tries = m.tries; support = m.support; stage = m.stage }) × StageKeepsEnds m.stage };
 }
 
 // The answer to an interval, or to a reading that lies before the record.
 fn timed(generation: u32, row: u32, sequence: u32, found: Result<Interval, Causality>) -> Answer
-    ensures { result ≡ timed generation row sequence found }
+    requires ends { IfOk found KeepsEnds }
+    ensures value { result ≡ timed generation row sequence found }
+    ensures ends { AnswerKeepsEnds result }
 {
     match found {
         Ok(interval) => Answer::Time(Timed {
@@ -67,7 +70,8 @@ fn answer_of(
 ) -> Answer
     requires mono { reading.mono ≤ LAST_MOMENT }
     requires real { reading.real ≤ LAST_MOMENT }
-    ensures { result ≡ answer_of generation rec.now reading marker sequence }
+    ensures value { result ≡ answer_of generation rec.now reading marker sequence }
+    ensures ends { AnswerKeepsEnds result }
 {
     timed(
         generation,
@@ -79,7 +83,8 @@ fn answer_of(
 
 // What follows on what the segment's tries have come to.
 fn after_segment(seen: &Seen) -> Stage
-    ensures { (read : SeqlockRead) → result ≡ after_segment read (Some seen.now) }
+    ensures value { (read : SeqlockRead) → result ≡ after_segment read (Some seen.now) }
+    ensures ends { StageKeepsEnds result }
 {
     match seen {
         Seen::Whole { generation, rec } => Stage::Clock {
@@ -101,7 +106,8 @@ fn after_clock(tries: u16, support: bool, generation: u32, rec: &Record, reading
     requires most { tries ≤ MOST_TRIES }
     requires mono { reading.mono ≤ LAST_MOMENT }
     requires real { reading.real ≤ LAST_MOMENT }
-    ensures { result ≡ after_clock tries support generation rec.now reading }
+    ensures value { result ≡ after_clock tries support generation rec.now reading }
+    ensures ends { StageKeepsEnds result }
 {
     if support {
         Stage::Page {
@@ -119,7 +125,8 @@ fn after_clock(tries: u16, support: bool, generation: u32, rec: &Record, reading
 fn after_page(generation: u32, rec: &Record, reading: Reading, seen: PageSeen) -> Stage
     requires mono { reading.mono ≤ LAST_MOMENT }
     requires real { reading.real ≤ LAST_MOMENT }
-    ensures { (read : SeqlockRead) → result ≡ after_page generation rec.now reading read (Some seen) }
+    ensures value { (read : SeqlockRead) → result ≡ after_page generation rec.now reading read (Some seen) }
+    ensures ends { StageKeepsEnds result }
 {
     match seen {
         PageSeen::Marker { marker, sequence } => Stage::Done(answer_of(
@@ -139,6 +146,7 @@ fn try_on(stage: &mut Stage, value: u64) -> bool
     requires good { IsGoodLoad (act_at stage.old) value }
     ensures tried { stage.new ≡ tried stage.old value }
     ensures on { IsTrue result → TriesOn stage.new }
+    ensures ends { StageKeepsEnds stage.new }
     ensures ended { IsFalse result → HasEnded stage.new }
 {
     match stage {
@@ -163,7 +171,9 @@ fn follow(stage: &Stage, tries: u16, support: bool, value: u64, clock: &[ClockRo
     requires row { IsRowAt clock.now stage.now value }
     requires rows { length clock.now ≤ MOST_HOST_ROWS }
     requires moments { IsClock clock.now }
-    ensures { result ≡ followed clock.now tries support stage.now value }
+    requires ends { StageKeepsEnds stage.now }
+    ensures value { result ≡ followed clock.now tries support stage.now value }
+    ensures ends { StageKeepsEnds result }
 {
     match stage {
         Stage::Segment(reader) => follow_segment(reader),
@@ -182,7 +192,8 @@ fn follow(stage: &Stage, tries: u16, support: bool, value: u64, clock: &[ClockRo
 
 fn follow_segment(reader: &SegmentReader) -> Stage
     requires { segment.act_of reader.now ≡ Act.End }
-    ensures { result ≡ after_segment reader.now (segment.end_of reader.now) }
+    ensures value { result ≡ after_segment reader.now (segment.end_of reader.now) }
+    ensures ends { StageKeepsEnds result }
 {
     match reader.end() {
         None => unreachable!(),
@@ -194,7 +205,8 @@ fn follow_page(generation: u32, rec: &Record, reading: Reading, reader: &PageRea
     requires ended { page.act_of reader.now ≡ Act.End }
     requires mono { reading.mono ≤ LAST_MOMENT }
     requires real { reading.real ≤ LAST_MOMENT }
-    ensures { result ≡ after_page generation rec.now reading reader.now (page.end_of reader.now) }
+    ensures value { result ≡ after_page generation rec.now reading reader.now (page.end_of reader.now) }
+    ensures ends { StageKeepsEnds result }
 {
     match reader.end() {
         None => unreachable!(),
@@ -210,7 +222,9 @@ fn go_on(stage: &mut Stage, tries: u16, support: bool, value: u64, clock: &[Cloc
     requires row { IsRowAt clock.now stage.old value }
     requires rows { length clock.now ≤ MOST_HOST_ROWS }
     requires moments { IsClock clock.now }
-    ensures { stage.new ≡ followed clock.now tries support stage.old value }
+    requires ends { StageKeepsEnds stage.old }
+    ensures value { stage.new ≡ followed clock.now tries support stage.old value }
+    ensures ends { StageKeepsEnds stage.new }
 {
     *stage = follow(stage, tries, support, value, clock);
 }
@@ -225,7 +239,8 @@ fn give_stage(stage: &mut Stage, tries: u16, support: bool, value: u64, clock: &
     requires row { IsRowNumber clock.now (act_at stage.old) value }
     requires rows { length clock.now ≤ MOST_HOST_ROWS }
     requires moments { IsClock clock.now }
-    ensures { stage.new ≡ stage_given clock.now tries support stage.old value }
+    ensures value { stage.new ≡ stage_given clock.now tries support stage.old value }
+    ensures ends { StageKeepsEnds stage.new }
 {
     if !try_on(stage, value) {
         go_on(stage, tries, support, value, clock);
@@ -287,6 +302,7 @@ impl NowMachine {
     pub fn end(&self) -> Option<Answer>
         ensures value { result ≡ end_of self.now }
         ensures ended { IsNone result ↔ (act_of self.now ≢ Act.End) }
+        ensures ends { IfSome result AnswerKeepsEnds }
     {
         match &self.stage {
             Stage::Done(answer) => Some(*answer),

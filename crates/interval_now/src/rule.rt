@@ -1,6 +1,6 @@
-ghost use Rattle.std.specs.Prelude.{◌≡◌, ◌≤◌, ◌≤ℤ◌, ◌^◌, ◌-ℤ◌, ◌+ℤ◌, ◌<ℤ◌, ◌↔◌, ◌+◌, IsErr, pos};
+ghost use Rattle.std.specs.Prelude.{◌≡◌, ◌≤◌, ◌≤ℤ◌, ◌^◌, ◌-ℤ◌, ◌+ℤ◌, ◌<ℤ◌, ◌↔◌, ◌+◌, IsErr, IfOk, pos};
 ghost use Rattle.clock_gate.specs.declared.limits.TheConstants.{LAST_MOMENT};
-ghost use Rattle.interval_now.specs.Interval.{interval_of, client_status, is_unabsorbed, elapsed_of, growth_of, half_width_of, IsGrowth};
+ghost use Rattle.interval_now.specs.Interval.{interval_of, client_status, is_unabsorbed, elapsed_of, growth_of, half_width_of, most_half_width, IsGrowth, KeepsEnds};
 
 use crate::answers::{Causality, Interval};
 use clock_gate::{ClockStatus, Reading};
@@ -72,7 +72,7 @@ fn half_width(rec: &Record, mono: u64) -> i128
     requires { mono ≤ LAST_MOMENT }
     ensures value { result ≡ half_width_of rec.now mono }
     ensures low { pos 0 ≤ℤ result }
-    ensures high { result ≤ℤ pos (2 ^ 63) }
+    ensures high { result ≤ℤ pos most_half_width }
 {
     let elapsed = elapsed(rec.as_of().nanos(), mono);
     i128::from(rec.bound()) + i128::from(growth(elapsed, rec.drift()))
@@ -80,7 +80,7 @@ fn half_width(rec: &Record, mono: u64) -> i128
 
 fn earliest(real: u64, half: i128) -> i128
     requires low { pos 0 ≤ℤ half }
-    requires high { half ≤ℤ pos (2 ^ 63) }
+    requires high { half ≤ℤ pos most_half_width }
     ensures { result ≡ pos real -ℤ half }
 {
     i128::from(real) - half
@@ -88,7 +88,7 @@ fn earliest(real: u64, half: i128) -> i128
 
 fn latest(real: u64, half: i128) -> i128
     requires low { pos 0 ≤ℤ half }
-    requires high { half ≤ℤ pos (2 ^ 63) }
+    requires high { half ≤ℤ pos most_half_width }
     ensures { result ≡ pos real +ℤ half }
 {
     i128::from(real) + half
@@ -109,6 +109,7 @@ pub fn interval(
     requires real { reading.real ≤ LAST_MOMENT }
     ensures value { result ≡ interval_of rec.now reading.mono reading.real page_marker }
     ensures causality { IsErr result ↔ (pos (reading.mono + 1000) <ℤ rec.now.as_of) }
+    ensures ends { IfOk result KeepsEnds }
 {
     let as_of = rec.as_of();
     if i128::from(reading.mono) + SLACK_NANOS < as_of.nanos() {

@@ -7,6 +7,8 @@ use Rattle.interval_now.proofs.now.NowMachine.new.Goals as goal
 
 pub invariant_of-result : goal.invariant_of-result
 invariant_of-result c =
-    let some = c.requires.some in
-    subst (λ (read : SeqlockRead). IsCall (record { tries = c.args.tries; support = c.args.support; stage = Segment read })) (sym c.new.ensures.value)
-    (started_is_call c.args.tries c.args.support (omega arith) c.requires.most)
+    let some = c.requires.some in (
+      subst (λ (read : SeqlockRead). IsCall (record { tries = c.args.tries; support = c.args.support; stage = Segment read })) (sym c.new.ensures.value)
+          (started_is_call c.args.tries c.args.support (omega arith) c.requires.most),
+      tt,
+    )
