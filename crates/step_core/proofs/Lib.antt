@@ -29,6 +29,7 @@ pub mod RunKeeps
 pub mod NeverFall
 pub mod DaemonFits
 pub mod DaemonGiven
+pub mod DaemonTells
 pub mod DaemonLeaves
 pub mod DaemonStore
 pub mod DaemonStoring

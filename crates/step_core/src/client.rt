@@ -1,7 +1,8 @@
-ghost use Rattle.std.specs.Prelude.{◌≡◌, ◌≤◌, ◌↔◌, length, All, None, IfOk, IsTrue, is_some};
+ghost use Rattle.std.specs.Prelude.{◌≡◌, ◌≤◌, ◌↔◌, length, All, None, IfOk, IfSome, IsTrue, is_some};
 ghost use Rattle.clock_gate.specs.ClockRow.{IsClock};
 ghost use Rattle.clock_gate.specs.declared.limits.TheConstants.{MOST_CALLS, MOST_HOST_ROWS};
 ghost use Rattle.clock_gate.specs.Trace.{IsCallRow};
+ghost use Rattle.interval_now.specs.Call.{AnswerKeepsEnds};
 ghost use Rattle.step_core.specs.SharedClient.{tries_of, client_start, client_ready, client_takes, client_act, client_after, client_loaded, client_told, answer_in, client_turned, noted, trail_of, client_ended, client_has_job};
 ghost use Rattle.step_core.specs.Room.{with_items};
 ghost use Rattle.step_core.specs.SharedWords.{value_of};
@@ -151,7 +152,8 @@ impl Client {
 
     // The answer of the call in hand.
     fn answer(&self) -> Option<Answer>
-        ensures { result ≡ answer_in self.now.call }
+        ensures value { result ≡ answer_in self.now.call }
+        ensures ends { IfSome result AnswerKeepsEnds }
     {
         match &self.call {
             None => None,

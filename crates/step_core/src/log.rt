@@ -1,4 +1,5 @@
-ghost use Rattle.std.specs.Prelude.{◌≡◌, ◌+◌, ◌≤◌, ◌<◌, [], ◌∷◌, length, IfOk};
+ghost use Rattle.std.specs.Prelude.{◌≡◌, ◌+◌, ◌≤◌, ◌<◌, [], ◌∷◌, length, All, IfOk, IfSome};
+ghost use Rattle.step_core.specs.Ends.{EventKeepsEnds};
 ghost use Rattle.step_core.specs.Room.{list_of, with_items};
 
 use crate::event::Event;
@@ -16,7 +17,8 @@ pub(crate) struct Log {
 }
 
 impl Model for Log {
-    ghost use Rattle.std.specs.Prelude.{◌≤◌, ◌+◌, vec_capacity, vec_len};
+    ghost use Rattle.std.specs.Prelude.{◌≤◌, ◌+◌, All, vec_capacity, vec_len};
+    ghost use Rattle.step_core.specs.Ends.{EventKeepsEnds};
     ghost use Rattle.step_core.specs.Room.{Roomy};
     ghost use Rattle.step_core.specs.declared.event.Event.{Event};
 
@@ -24,7 +26,7 @@ impl Model for Log {
 
     ghost view = { λ l. record { items = l.items.items; room = l.room } };
 
-    ghost invariant = { λ l. vec_len l.items + l.room ≤ vec_capacity l.items };
+    ghost invariant = { λ l. (vec_len l.items + l.room ≤ vec_capacity l.items) × All EventKeepsEnds l.items.items };
 }
 
 impl Log {
@@ -36,7 +38,8 @@ impl Log {
     }
 
     pub(crate) fn push(&mut self, event: Event)
-        requires { 0 < self.old.room }
+        requires room { 0 < self.old.room }
+        requires ends { EventKeepsEnds event }
         ensures { self.new ≡ with_items self.old (event ∷ []) }
     {
         // The check wants to be told of the types of other crates that an event holds.
@@ -47,7 +50,8 @@ impl Log {
 
     // The events of one turn.
     pub(crate) fn tell(&mut self, told: &Told)
-        requires { length told.now ≤ self.old.room }
+        requires room { length told.now ≤ self.old.room }
+        requires ends { All EventKeepsEnds told.now }
         ensures { self.new ≡ with_items self.old told.now }
     {
         self.put(told.first);
@@ -55,7 +59,8 @@ impl Log {
     }
 
     fn put(&mut self, event: Option<Event>)
-        requires { length (list_of event) ≤ self.old.room }
+        requires room { length (list_of event) ≤ self.old.room }
+        requires ends { IfSome event EventKeepsEnds }
         ensures { self.new ≡ with_items self.old (list_of event) }
     {
         match event {
@@ -65,7 +70,8 @@ impl Log {
     }
 
     pub(crate) fn as_slice(&self) -> &[Event]
-        ensures { result.now ≡ self.now.items }
+        ensures value { result.now ≡ self.now.items }
+        ensures ends { All EventKeepsEnds result.now }
     {
         self.items.as_slice()
     }

@@ -1,5 +1,6 @@
-ghost use Rattle.std.specs.Prelude.{◌≡◌, ◌≤◌, ◌<◌, ◌+◌, ◌-◌, ◌*◌, ◌^◌, ◌++◌, ◌∷◌, [], length, not, slice_get, slice_index, IfOk, IfSome, IsTrue};
+ghost use Rattle.std.specs.Prelude.{◌≡◌, ◌≤◌, ◌<◌, ◌+◌, ◌-◌, ◌*◌, ◌^◌, ◌++◌, ◌∷◌, [], length, not, slice_get, slice_index, All, IfOk, IfSome, IsTrue};
 ghost use Rattle.step_core.specs.Schedule as schedule;
+ghost use Rattle.step_core.specs.Ends.{EventKeepsEnds};
 ghost use Rattle.step_core.specs.Shared.{shared_start, shared_turn, host_steps, daemon_steps, client_turn, client_at, page_part, jobs_ended, has_job, ended_of, has_job_of};
 ghost use Rattle.step_core.specs.SharedHost.{host_ready};
 ghost use Rattle.step_core.specs.SharedDaemon.{daemon_ready};
@@ -243,6 +244,8 @@ impl<'t> World<'t> {
     pub fn events(&self) -> &[Event]
         ensures value { result.now ≡ self.now.events }
         ensures few { length result.now ≤ MOST_EVENTS }
+        // Each answer's interval lies from February 1697 to August 2369.
+        ensures ends { All EventKeepsEnds result.now }
     {
         self.events.as_slice()
     }
