@@ -29,47 +29,51 @@ fn reply(leap: Leap, root_dispersion: u32) -> Tracking {
 }
 
 #[test]
-fn which_replies_are_good(rt: HostRuntime) {
+fn a_synchronised_reply_is_good(rt: HostRuntime) {
+    let asked = Reading {
+        row: 1,
+        mono: 1_000_000_000,
+        real: 1_700_000_000_000_000_000,
+    };
+    for (message, leap) in [
+        ("no leap second", Leap::Normal),
+        ("a second is inserted", Leap::Insert),
+        ("a second is deleted", Leap::Delete),
+    ] {
+        let good = assess(&reply(leap, 0xea80_0000), asked);
+        assert_eq!(rt; good.map(|good| good.bound), Ok(244_142), "{message}");
+    }
+}
+
+#[test]
+fn a_reply_that_is_not_good_is_told_its_first_fault(rt: HostRuntime) {
     let asked = Reading {
         row: 1,
         mono: 1_000_000_000,
         real: 1_700_000_000_000_000_000,
     };
     for (message, leap, dispersion, want) in [
-        ("synchronised", Leap::Normal, 0xea80_0000, Ok(244_142)),
-        (
-            "a second is inserted",
-            Leap::Insert,
-            0xea80_0000,
-            Ok(244_142),
-        ),
-        (
-            "a second is deleted",
-            Leap::Delete,
-            0xea80_0000,
-            Ok(244_142),
-        ),
         (
             "no source",
             Leap::Unsynchronised,
             0xea80_0000,
-            Err(Unfit::NotSynchronised),
+            Unfit::NotSynchronised,
         ),
         (
             "over 2^62 ns",
             Leap::Normal,
             0x4489_7060,
-            Err(Unfit::BoundTooLarge),
+            Unfit::BoundTooLarge,
         ),
         (
             "both",
             Leap::Unsynchronised,
             0x7eff_ffff,
-            Err(Unfit::NotSynchronised),
+            Unfit::NotSynchronised,
         ),
     ] {
         let good = assess(&reply(leap, dispersion), asked);
-        assert_eq!(rt; good.map(|good| good.bound), want, "{message}");
+        assert_eq!(rt; good.map(|good| good.bound), Err(want), "{message}");
     }
 }
 
