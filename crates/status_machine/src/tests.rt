@@ -135,157 +135,80 @@ fn the_first_poll_after_a_start_without_a_record(rt: HostRuntime) {
 }
 
 #[test]
-fn the_first_poll_after_a_kept_record(rt: HostRuntime) {
-    use ClockStatus::{Disrupted, FreeRunning, Synchronized, Unknown};
-    for (status, support, page, good, missing) in [
-        (
-            Unknown,
-            false,
-            None,
-            (Synchronized, Some(1)),
-            (Unknown, None),
-        ),
-        (
-            Unknown,
-            false,
-            Some(7),
-            (Disrupted, None),
-            (Disrupted, None),
-        ),
-        (
-            Unknown,
-            true,
-            None,
-            (Synchronized, Some(1)),
-            (Unknown, None),
-        ),
-        (
-            Unknown,
-            true,
-            Some(7),
-            (Synchronized, Some(1)),
-            (Unknown, None),
-        ),
-        (Unknown, true, Some(8), (Disrupted, None), (Disrupted, None)),
-        (
-            Synchronized,
-            false,
-            None,
-            (Synchronized, Some(1)),
-            (FreeRunning, Some(9)),
-        ),
-        (
-            Synchronized,
-            false,
-            Some(7),
-            (Disrupted, Some(9)),
-            (Disrupted, Some(9)),
-        ),
-        (
-            Synchronized,
-            true,
-            None,
-            (Synchronized, Some(1)),
-            (FreeRunning, Some(9)),
-        ),
-        (
-            Synchronized,
-            true,
-            Some(7),
-            (Synchronized, Some(1)),
-            (FreeRunning, Some(9)),
-        ),
-        (
-            Synchronized,
-            true,
-            Some(8),
-            (Disrupted, Some(9)),
-            (Disrupted, Some(9)),
-        ),
-        (
-            FreeRunning,
-            false,
-            None,
-            (Synchronized, Some(1)),
-            (FreeRunning, Some(9)),
-        ),
-        (
-            FreeRunning,
-            false,
-            Some(7),
-            (Disrupted, Some(9)),
-            (Disrupted, Some(9)),
-        ),
-        (
-            FreeRunning,
-            true,
-            None,
-            (Synchronized, Some(1)),
-            (FreeRunning, Some(9)),
-        ),
-        (
-            FreeRunning,
-            true,
-            Some(7),
-            (Synchronized, Some(1)),
-            (FreeRunning, Some(9)),
-        ),
-        (
-            FreeRunning,
-            true,
-            Some(8),
-            (Disrupted, Some(9)),
-            (Disrupted, Some(9)),
-        ),
-        (
-            Disrupted,
-            false,
-            None,
-            (Disrupted, Some(9)),
-            (Disrupted, Some(9)),
-        ),
-        (
-            Disrupted,
-            false,
-            Some(7),
-            (Disrupted, Some(9)),
-            (Disrupted, Some(9)),
-        ),
-        (
-            Disrupted,
-            true,
-            None,
-            (Disrupted, Some(9)),
-            (Disrupted, Some(9)),
-        ),
-        (
-            Disrupted,
-            true,
-            Some(7),
-            (Disrupted, Some(9)),
-            (Disrupted, Some(9)),
-        ),
-        (
-            Disrupted,
-            true,
-            Some(8),
-            (Disrupted, Some(9)),
-            (Disrupted, Some(9)),
-        ),
+fn the_first_poll_after_an_unknown_record(rt: HostRuntime) {
+    let synchronized = (ClockStatus::Synchronized, Some(1));
+    let unknown = (ClockStatus::Unknown, None);
+    let disrupted = (ClockStatus::Disrupted, None);
+    for (support, page, good, missing) in [
+        (false, None, synchronized, unknown),
+        (false, Some(7), disrupted, disrupted),
+        (true, None, synchronized, unknown),
+        (true, Some(7), synchronized, unknown),
+        (true, Some(8), disrupted, disrupted),
     ] {
-        let start = kept(status, support);
+        let start = kept(ClockStatus::Unknown, support);
         let found = start.as_ref().map(|start| first_poll(start, page, &REPLY));
-        assert_eq!(rt;
-            found,
-            Some(good),
-            "{status:?}, {support}, {page:?}, a good poll"
-        );
+        assert_eq!(rt; found, Some(good), "{support}, {page:?}, a good poll");
         let found = start.as_ref().map(|start| first_poll(start, page, &[]));
-        assert_eq!(rt;
-            found,
-            Some(missing),
-            "{status:?}, {support}, {page:?}, no reply"
-        );
+        assert_eq!(rt; found, Some(missing), "{support}, {page:?}, no reply");
+    }
+}
+
+#[test]
+fn the_first_poll_after_a_synchronized_record(rt: HostRuntime) {
+    let synchronized = (ClockStatus::Synchronized, Some(1));
+    let free_running = (ClockStatus::FreeRunning, Some(9));
+    let disrupted = (ClockStatus::Disrupted, Some(9));
+    for (support, page, good, missing) in [
+        (false, None, synchronized, free_running),
+        (false, Some(7), disrupted, disrupted),
+        (true, None, synchronized, free_running),
+        (true, Some(7), synchronized, free_running),
+        (true, Some(8), disrupted, disrupted),
+    ] {
+        let start = kept(ClockStatus::Synchronized, support);
+        let found = start.as_ref().map(|start| first_poll(start, page, &REPLY));
+        assert_eq!(rt; found, Some(good), "{support}, {page:?}, a good poll");
+        let found = start.as_ref().map(|start| first_poll(start, page, &[]));
+        assert_eq!(rt; found, Some(missing), "{support}, {page:?}, no reply");
+    }
+}
+
+#[test]
+fn the_first_poll_after_a_free_running_record(rt: HostRuntime) {
+    let synchronized = (ClockStatus::Synchronized, Some(1));
+    let free_running = (ClockStatus::FreeRunning, Some(9));
+    let disrupted = (ClockStatus::Disrupted, Some(9));
+    for (support, page, good, missing) in [
+        (false, None, synchronized, free_running),
+        (false, Some(7), disrupted, disrupted),
+        (true, None, synchronized, free_running),
+        (true, Some(7), synchronized, free_running),
+        (true, Some(8), disrupted, disrupted),
+    ] {
+        let start = kept(ClockStatus::FreeRunning, support);
+        let found = start.as_ref().map(|start| first_poll(start, page, &REPLY));
+        assert_eq!(rt; found, Some(good), "{support}, {page:?}, a good poll");
+        let found = start.as_ref().map(|start| first_poll(start, page, &[]));
+        assert_eq!(rt; found, Some(missing), "{support}, {page:?}, no reply");
+    }
+}
+
+#[test]
+fn the_first_poll_after_a_disrupted_record(rt: HostRuntime) {
+    let disrupted = (ClockStatus::Disrupted, Some(9));
+    for (support, page, good, missing) in [
+        (false, None, disrupted, disrupted),
+        (false, Some(7), disrupted, disrupted),
+        (true, None, disrupted, disrupted),
+        (true, Some(7), disrupted, disrupted),
+        (true, Some(8), disrupted, disrupted),
+    ] {
+        let start = kept(ClockStatus::Disrupted, support);
+        let found = start.as_ref().map(|start| first_poll(start, page, &REPLY));
+        assert_eq!(rt; found, Some(good), "{support}, {page:?}, a good poll");
+        let found = start.as_ref().map(|start| first_poll(start, page, &[]));
+        assert_eq!(rt; found, Some(missing), "{support}, {page:?}, no reply");
     }
 }
 
