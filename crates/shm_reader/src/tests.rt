@@ -104,18 +104,22 @@ fn generation_zero_ends_the_read_after_one_load(rt: HostRuntime) -> Result<(), F
 }
 
 #[test]
-fn a_try_that_meets_an_update_fails(rt: HostRuntime) -> Result<(), Fail> {
+fn a_try_that_begins_in_an_update_fails(rt: HostRuntime) -> Result<(), Fail> {
     let rec = record(7).ok_or("its bounds are kept")?;
-    let two = shared(word1(Layout::Two, 2), &rec);
     let odd = shared(word1(Layout::Two, 3), &rec);
-
-    // An odd generation at first, and the update ends.
     let ends = [header(2, word1(Layout::Two, 4))];
     assert_eq!(rt;
         read(3, &odd, &ends),
         (Some(Seen::Whole { generation: 4, rec }), 12)
     );
-    // Another generation at last, and then an odd one.
+    Ok(())
+}
+
+#[test]
+fn a_try_that_ends_in_another_generation_fails(rt: HostRuntime) -> Result<(), Fail> {
+    let rec = record(7).ok_or("its bounds are kept")?;
+    let two = shared(word1(Layout::Two, 2), &rec);
+    // Another even generation in the first try, and then an odd one.
     let begins = [
         header(4, word1(Layout::Two, 4)),
         header(10, word1(Layout::Two, 5)),
@@ -142,7 +146,13 @@ fn a_try_that_meets_an_update_fails(rt: HostRuntime) -> Result<(), Fail> {
             11
         )
     );
-    // The next update changes a word, and the last try reads it.
+    Ok(())
+}
+
+#[test]
+fn the_try_after_an_update_reads_its_record(rt: HostRuntime) -> Result<(), Fail> {
+    let rec = record(7).ok_or("its bounds are kept")?;
+    let two = shared(word1(Layout::Two, 2), &rec);
     let changed = record(8).ok_or("its bounds are kept")?;
     let writes = [
         header(3, word1(Layout::Two, 3)),
