@@ -4,7 +4,7 @@ ghost use Rattle.writer_reopen.specs.Poll.{AreRows};
 use super::*;
 use clock_gate::{Act, ClockRow, ClockStatus};
 use generation_word::{Layout, split_word1, word1};
-use segment_layout::{MAGIC, Start, admit};
+use segment_layout::{MAGIC, Publication, Start, admit};
 use status_machine::{Base, Daemon, hear};
 use std::test::Fail;
 
@@ -206,144 +206,140 @@ fn completed(header: u64, layout: Layout, stop: u8) -> Option<(&'static str, u32
     ))
 }
 
+// What `completed` gives after this stop: the first before any store, the last after every store, else the other.
+fn after(
+    stop: u8,
+    rested: (&'static str, u32, u32),
+    torn: (&'static str, u32, u32),
+    ended: (&'static str, u32, u32),
+) -> (&'static str, u32, u32) {
+    match stop {
+        0 => rested,
+        10 => ended,
+        _ => torn,
+    }
+}
+
 #[test]
-fn a_stopped_publication_is_completed(rt: HostRuntime) {
-    for (layout, header, rested, torn, ended) in [
+fn a_stopped_first_publication_is_completed(rt: HostRuntime) {
+    for layout in [Layout::Two, Layout::Three] {
+        for stop in 0..11 {
+            assert_eq!(rt;
+                completed(0, layout, stop),
+                Some(after(stop, ("fresh", 0, 2), ("torn", 1, 2), ("kept", 2, 4))),
+                "stop {stop} in {layout:?}"
+            );
+        }
+    }
+}
+
+#[test]
+fn a_stopped_publication_of_layout_two_is_completed(rt: HostRuntime) {
+    for (header, rested, torn, ended) in [
         (
-            Layout::Two,
-            0,
-            ("fresh", 0, 2),
-            ("torn", 1, 2),
-            ("kept", 2, 4),
-        ),
-        (
-            Layout::Two,
             word1(Layout::Two, 2),
             ("kept", 2, 4),
             ("torn", 3, 4),
             ("kept", 4, 6),
         ),
         (
-            Layout::Two,
             word1(Layout::Two, 65_532),
             ("kept", 65_532, 65_534),
             ("torn", 65_533, 65_534),
             ("kept", 65_534, 2),
         ),
         (
-            Layout::Two,
             word1(Layout::Two, 65_534),
             ("kept", 65_534, 2),
             ("torn", 65_535, 2),
             ("kept", 2, 4),
         ),
         (
-            Layout::Two,
             word1(Layout::Two, 65_535),
             ("torn", 65_535, 2),
             ("torn", 65_535, 2),
             ("kept", 2, 4),
         ),
+    ] {
+        for stop in 0..11 {
+            assert_eq!(rt;
+                completed(header, Layout::Two, stop),
+                Some(after(stop, rested, torn, ended)),
+                "stop {stop} at {header:x}"
+            );
+        }
+    }
+}
+
+#[test]
+fn a_stopped_publication_of_layout_three_is_completed(rt: HostRuntime) {
+    for (header, rested, torn, ended) in [
         (
-            Layout::Three,
-            0,
-            ("fresh", 0, 2),
-            ("torn", 1, 2),
-            ("kept", 2, 4),
-        ),
-        (
-            Layout::Three,
             word1(Layout::Three, 2),
             ("kept", 2, 4),
             ("torn", 3, 4),
             ("kept", 4, 6),
         ),
         (
-            Layout::Three,
             word1(Layout::Three, 65_532),
             ("kept", 65_532, 65_534),
             ("torn", 65_533, 65_534),
             ("kept", 65_534, 65_536),
         ),
         (
-            Layout::Three,
             word1(Layout::Three, 65_534),
             ("kept", 65_534, 65_536),
             ("torn", 65_535, 65_536),
             ("kept", 65_536, 65_538),
         ),
         (
-            Layout::Three,
             word1(Layout::Three, 65_535),
             ("torn", 65_535, 65_536),
             ("torn", 65_535, 65_536),
             ("kept", 65_536, 65_538),
         ),
     ] {
-        assert_eq!(rt; completed(header, layout, 0), Some(rested), "{header:x}");
-        for stop in 1..10 {
+        for stop in 0..11 {
             assert_eq!(rt;
-                completed(header, layout, stop),
-                Some(torn),
+                completed(header, Layout::Three, stop),
+                Some(after(stop, rested, torn, ended)),
                 "stop {stop} at {header:x}"
             );
         }
-        assert_eq!(rt; completed(header, layout, 10), Some(ended), "{header:x}");
     }
 }
 
 #[test]
-fn a_segment_of_version_two_is_moved(rt: HostRuntime) -> Result<(), Fail> {
-    for (message, header, want, number, moved, count) in [
-        (
-            "kept",
-            word1(Layout::Two, 65_534),
-            word1(Layout::Three, 65_536),
-            65_534,
-            Some(65_536),
-            12,
-        ),
-        (
-            "kept",
-            word1(Layout::Two, 2),
-            word1(Layout::Three, 4),
-            2,
-            Some(4),
-            12,
-        ),
-        (
-            "torn",
-            word1(Layout::Two, 65_535),
-            word1(Layout::Three, 65_535),
-            65_535,
-            None,
-            3,
-        ),
-        (
-            "fresh",
-            word1(Layout::Two, 0),
-            word1(Layout::Three, 0),
-            0,
-            None,
-            4,
-        ),
-        (
-            "kept",
-            word1(Layout::Three, 65_534),
-            word1(Layout::Three, 65_534),
-            65_534,
-            None,
-            10,
-        ),
+fn a_record_of_version_two_is_moved(rt: HostRuntime) -> Result<(), Fail> {
+    for (number, moved) in [(65_534, 65_536), (2, 4)] {
+        let mut words = shared(word1(Layout::Two, number), OLD);
+        let mut steps = 0;
+        let opening = opened(&mut words, Layout::Three, &mut steps).ok_or("the image is admitted")?;
+        assert_eq!(rt; kind(&opening.start), "kept", "{number}");
+        assert_eq!(rt; opening.start.generation(), number, "{number}");
+        assert_eq!(rt; opening.moved, Some(moved), "{number}");
+        assert_eq!(rt; steps, 12, "{number}");
+        assert_eq!(rt; words[1], word1(Layout::Three, moved), "{number}");
+        assert_eq!(rt; words[2..10], OLD[..], "{number}");
+    }
+    Ok(())
+}
+
+#[test]
+fn a_segment_that_is_not_moved_keeps_its_number(rt: HostRuntime) -> Result<(), Fail> {
+    for (message, header, number, count) in [
+        ("torn", word1(Layout::Two, 65_535), 65_535, 3),
+        ("fresh", word1(Layout::Two, 0), 0, 4),
+        ("kept", word1(Layout::Three, 65_534), 65_534, 10),
     ] {
         let mut words = shared(header, OLD);
         let mut steps = 0;
         let opening = opened(&mut words, Layout::Three, &mut steps).ok_or("the image is admitted")?;
         assert_eq!(rt; kind(&opening.start), message, "{header:x}");
         assert_eq!(rt; opening.start.generation(), number, "{header:x}");
-        assert_eq!(rt; opening.moved, moved, "{header:x}");
+        assert_eq!(rt; opening.moved, None, "{header:x}");
         assert_eq!(rt; steps, count, "{header:x}");
-        assert_eq!(rt; words[1], want, "{header:x}");
+        assert_eq!(rt; words[1], word1(Layout::Three, number), "{header:x}");
         assert_eq!(rt; words[2..10], OLD[..], "{header:x}");
     }
     Ok(())
@@ -376,6 +372,20 @@ fn poll_with_page(stop: Option<u8>, tries: u16) -> PollMachine
     PollMachine::begin(daemon, Layout::Two, 0, 5, hear(&REPLY), stop, tries)
 }
 
+// The daemon and the publication of a poll that looks at the page, in each of whose first so many tries another page comes.
+fn looked(words: &mut [u64; 24], pages: usize, steps: &mut usize) -> Option<(Daemon, Publication)> {
+    let Some(
+        Polled::Published {
+            daemon,
+            publication,
+        },
+    ) = polled(words, poll_with_page(None, 3), pages, steps)
+    else {
+        return None;
+    };
+    Some((daemon, publication))
+}
+
 #[test]
 fn a_poll_looks_at_the_page_between_the_clock_loads(rt: HostRuntime) -> Result<(), Fail> {
     for (message, pages, sequence, count) in [
@@ -385,17 +395,10 @@ fn a_poll_looks_at_the_page_between_the_clock_loads(rt: HostRuntime) -> Result<(
     ] {
         let mut words = shared(0, OLD);
         let mut steps = 0;
-        let answer = polled(&mut words, poll_with_page(None, 3), pages, &mut steps).ok_or(
-            "the poll ends",
+        let (daemon, publication) = looked(&mut words, pages, &mut steps).ok_or(
+            "the record is published",
         )?;
         assert_eq!(rt; steps, count, "{message}");
-        let Polled::Published {
-            daemon,
-            publication,
-        } = answer
-        else {
-            return Err("the record is published".into());
-        };
         assert_eq!(rt; daemon.held, Some(7), "{message}");
         assert_eq!(rt;
             (publication.poll, publication.generation),
@@ -412,17 +415,26 @@ fn a_poll_looks_at_the_page_between_the_clock_loads(rt: HostRuntime) -> Result<(
             (sequence, 5),
             "{message}"
         );
-        assert_eq!(rt; publication.rec.as_of().nanos(), 2_000_000_000, "{message}");
-        assert_eq!(rt;
-            publication.rec.status(),
-            ClockStatus::Synchronized,
-            "{message}"
-        );
-        assert_eq!(rt; words[2..7], NEW[..5], "{message}");
+    }
+    Ok(())
+}
+
+#[test]
+fn a_poll_with_a_page_publishes_its_marker(rt: HostRuntime) -> Result<(), Fail> {
+    for pages in 0..3 {
+        let mut words = shared(0, OLD);
+        let mut steps = 0;
+        let (_, publication) = looked(&mut words, pages, &mut steps).ok_or(
+            "the record is published",
+        )?;
+        let rec = publication.rec;
+        assert_eq!(rt; rec.as_of().nanos(), 2_000_000_000, "{pages} pages");
+        assert_eq!(rt; rec.status(), ClockStatus::Synchronized, "{pages} pages");
+        assert_eq!(rt; words[2..7], NEW[..5], "{pages} pages");
         assert_eq!(rt;
             words[7..10],
             [7, 0x0000_0001_0000_c350, 1][..],
-            "{message}"
+            "{pages} pages"
         );
     }
     Ok(())
