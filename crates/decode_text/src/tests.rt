@@ -82,8 +82,19 @@ fn a_page_with_one_digit_changed(rt: HostRuntime) {
     }
 }
 
+// The image with these digits from a place on.
+fn changed_image(place: usize, digits: &str) -> [u8; 160] {
+    let mut text = IMAGE;
+    for (i, digit) in digits.bytes().enumerate() {
+        if let Some(old) = text.get_mut(place.saturating_add(i)) {
+            *old = digit;
+        }
+    }
+    text
+}
+
 #[test]
-fn an_image_with_some_digits_changed(rt: HostRuntime) {
+fn an_image_with_some_digits_changed_is_told(rt: HostRuntime) {
     for (place, digits, want) in [
         (28_usize, "ffff", "image,torn,65535\n"),
         (28, "0000", "image,fresh\n"),
@@ -105,6 +116,15 @@ fn an_image_with_some_digits_changed(rt: HostRuntime) {
             "03",
             "image,kept,65534,1000000000,1001000000000,244142,0,50000,disrupted,0\n",
         ),
+    ] {
+        let text = changed_image(place, digits);
+        assert!(rt; is_told(rt.alloc(), What::Image, &text, want), "{want}");
+    }
+}
+
+#[test]
+fn an_image_with_some_digits_changed_is_refused(rt: HostRuntime) {
+    for (place, digits, want) in [
         (0, "5", "refused,magic\n"),
         (16, "51", "refused,size,81\n"),
         (24, "ff", "refused,version,255\n"),
@@ -117,12 +137,7 @@ fn an_image_with_some_digits_changed(rt: HostRuntime) {
         (38, "ff", "refused,range,2\n"),
         (70, "ff", "refused,range,4\n"),
     ] {
-        let mut text = IMAGE;
-        for (i, digit) in digits.bytes().enumerate() {
-            if let Some(old) = text.get_mut(place.saturating_add(i)) {
-                *old = digit;
-            }
-        }
+        let text = changed_image(place, digits);
         assert!(rt; is_told(rt.alloc(), What::Image, &text, want), "{want}");
     }
 }
