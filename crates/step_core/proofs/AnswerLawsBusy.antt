@@ -1,6 +1,6 @@
 -- Each try of a call that answered Busy failed.
-use Rattle.std.proofs.Common.{◌≡◌, ◌≢◌, ℕ, zero, suc, ◌+◌, ◌-◌, List, [], ◌∷◌, ◌++◌, Option, Some, None, refl, ap, sym, ◌∙◌, subst, arith, inl, inr, append-nil}
-use Rattle.std.specs.Prelude.{slice_get, slice_set, map}
+use Rattle.std.proofs.Common.{◌≡◌, ℕ, zero, suc, ◌+◌, List, [], ◌∷◌, ◌++◌, Option, Some, None, refl, ap, sym, ◌∙◌, subst, inl, inr, append-nil}
+use Rattle.std.specs.Prelude.{slice_get, map}
 use Rattle.std.specs.List.{range_with_len}
 use Rattle.std.proofs.lemmas.Bool.{cases_eq}
 use Rattle.clock_gate.specs.declared.trace.Party.{Party}
@@ -23,6 +23,7 @@ use Rattle.step_core.specs.ShowsSegment.{IsSegment}
 use Rattle.step_core.specs.Shows.{Shows}
 use Rattle.step_core.specs.AnswerLaws.{EachAnswer, next_call, next_read, IsFailing, first_number, HasFailed, HasFailedAll}
 use Rattle.step_core.proofs.DaemonQuiet.{AreQuiet, daemon_quiet}
+use Rattle.step_core.proofs.RunClients.{other_at, same_at}
 use Rattle.step_core.proofs.RunKeeps.{run_keeps}
 use Rattle.step_core.proofs.ClientLater.{ShowsClientOf}
 use Rattle.step_core.specs.SharedReady.{IsGiven}
@@ -108,29 +109,6 @@ module _ (trace : Trace) (run : Run) (who : Party) (new : Run) (leads : turn tra
         answers = subst (EachAnswer (HasFailedAll trace new)) (sym events)
             (each_more (HasFailedAll trace new) run.events told (answers_later run.events is.answers) (quiet_each (HasFailedAll trace new) told quiet));
       }
-
--- one client's place, after another state of a client is set
-set_same : (clients : List ClientRun) (place : ℕ) (old new : ClientRun) → slice_get clients place ≡ Some old → slice_get (slice_set clients place new) place ≡ Some new
-set_same [] place old new at = absurd (cc at)
-set_same (client ∷ clients) zero old new at = refl
-set_same (client ∷ clients) (suc place) old new at = set_same clients place old new at
-
-set_other : (clients : List ClientRun) (place other : ℕ) (new : ClientRun) → other ≢ place → slice_get (slice_set clients place new) other ≡ slice_get clients other
-set_other [] place other new differs = refl
-set_other (client ∷ clients) zero zero new differs = absurd (differs refl)
-set_other (client ∷ clients) zero (suc other) new differs = refl
-set_other (client ∷ clients) (suc place) zero new differs = refl
-set_other (client ∷ clients) (suc place) (suc other) new differs = set_other clients place other new (λ same. differs (ap suc same))
-
-other_at : (clients : List ClientRun) (client place : ℕ) (new : ClientRun) → suc place ≢ client → client_at (slice_set clients (suc place - 1) new) client ≡ client_at clients client
-other_at clients zero place new differs = refl
-other_at clients (suc other) place new differs =
-    set_other clients (suc place - 1) other new (λ same. let one_less : suc place - 1 ≡ place = omega arith in differs (ap suc (sym (same ∙ one_less))))
-
-same_at : (clients : List ClientRun) (place : ℕ) (old new : ClientRun) → slice_get clients place ≡ Some old → client_at (slice_set clients (suc place - 1) new) (suc place) ≡ Some new
-same_at clients place old new at =
-    let one_less : suc place - 1 ≡ place = omega arith in
-    ap (λ (n : ℕ). slice_get (slice_set clients n new) place) one_less ∙ set_same clients place old new at
 
 told_all : (trace : Trace) (new : Run) (client call : ℕ) (answer : Answer) (trail : Option Trail) → AllOf (HasFailed trace new client call) answer → HasFailedAll trace new client call answer trail
 told_all trace new client call (answers.Busy tries first last) trail all = all

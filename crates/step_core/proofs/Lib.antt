@@ -25,6 +25,7 @@ pub mod Turn
 pub mod Whole
 pub mod DaemonQuiet
 pub mod CallFloor
+pub mod RunClients
 pub mod RunKeeps
 pub mod NeverFall
 pub mod DaemonFits
@@ -60,3 +61,8 @@ pub mod RunFactsBases
 pub mod RunFactsBaseTurn
 pub mod RunFactsTell
 pub mod RunFactsLaws
+pub mod EndsPage
+pub mod EndsClient
+pub mod EndsDaemon
+pub mod EndsRun
+pub mod EndsWalk

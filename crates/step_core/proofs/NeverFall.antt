@@ -19,6 +19,7 @@ use Rattle.step_core.specs.RunWhole.{run_of}
 use Rattle.step_core.specs.RunLaws.{with_trail, positions_of, AreFrom, NeverFall}
 use Rattle.step_core.proofs.DaemonQuiet.{positions_more, IsQuiet, quiet_positions, daemon_quiet}
 use Rattle.step_core.proofs.CallFloor.{floor_of_try, floor_at, floor_of, floor_in, IsTrailFrom, IsAnsweredFrom, IsClientUp, turn_up}
+use Rattle.step_core.proofs.RunClients.{other_at, same_at}
 use Rattle.step_core.proofs.RunKeeps.{run_keeps}
 
 -- ---- lists that never fall
@@ -88,18 +89,6 @@ daemon_ordered client run next quiet is =
 
 -- ---- a turn of a client
 
-get_set_same : (clients : List ClientRun) (place : ℕ) (old new : ClientRun) → slice_get clients place ≡ Some old → slice_get (slice_set clients place new) place ≡ Some new
-get_set_same [] place old new at = absurd (cc at)
-get_set_same (client ∷ clients) zero old new at = refl
-get_set_same (client ∷ clients) (suc place) old new at = get_set_same clients place old new at
-
-get_set_other : (clients : List ClientRun) (place other : ℕ) (new : ClientRun) → other ≢ place → slice_get (slice_set clients place new) other ≡ slice_get clients other
-get_set_other [] place other new differs = refl
-get_set_other (client ∷ clients) zero zero new differs = absurd (differs refl)
-get_set_other (client ∷ clients) zero (suc other) new differs = refl
-get_set_other (client ∷ clients) (suc place) zero new differs = refl
-get_set_other (client ∷ clients) (suc place) (suc other) new differs = get_set_other clients place other new (λ same. differs (ap suc same))
-
 -- the client's own answer comes last
 own_trail : (positions : List ℕ) (least most : ℕ) (trail : Option Trail) → NeverFall positions → AreTo least positions → least ≤ most → IsTrailFrom least most trail
     → NeverFall (positions ++ with_trail trail []) × AreTo most (positions ++ with_trail trail [])
@@ -124,10 +113,8 @@ other_told client number call (Some answered) differs = let other : (number == c
 own_ordered : (trace : Trace) (run : Run) (place : ℕ) (old : ClientRun) (next : run_client.ClientTurn) → slice_get run.clients place ≡ Some old
     → IsClientUp trace run.host run.segment (floor_of run.segment old.call) next → IsOrdered (suc place) run → IsOrdered (suc place) (with_client run (suc place) next)
 own_ordered trace run place old next at up is =
-    let one_less : suc place - 1 ≡ place = omega arith in
     let before : floor_in run.segment (slice_get run.clients place) ≡ floor_of run.segment old.call = ap (floor_in run.segment) at in
-    let now : slice_get (slice_set run.clients (suc place - 1) next.client) place ≡ Some next.client =
-    ap (λ (n : ℕ). slice_get (slice_set run.clients n next.client) place) one_less ∙ get_set_same run.clients place old next.client at in
+    let now : slice_get (slice_set run.clients (suc place - 1) next.client) place ≡ Some next.client = same_at run.clients place old next.client at in
     let after : floor_in run.segment (slice_get (slice_set run.clients (suc place - 1) next.client) place) ≡ floor_of run.segment next.client.call = ap (floor_in run.segment) now in
     let positions = positions_of (suc place) run.events in
     let told : List Event = answer_events (suc place) next.client.begun next.answered in
@@ -139,11 +126,6 @@ own_ordered trace run place old next at up is =
       above = subst (λ (n : ℕ). AreTo n (positions_of (suc place) (run.events ++ told))) (sym after) (subst (AreTo (floor_of run.segment next.client.call)) (sym all) both.1);
       stands = subst (λ (n : ℕ). n ≤ run.segment.position) (sym after) up.below;
     }
-
-other_at : (clients : List ClientRun) (client place : ℕ) (new : ClientRun) → suc place ≢ client → client_at (slice_set clients (suc place - 1) new) client ≡ client_at clients client
-other_at clients zero place new differs = refl
-other_at clients (suc other) place new differs =
-    get_set_other clients (suc place - 1) other new (λ same. let one_less : suc place - 1 ≡ place = omega arith in differs (ap suc (sym (same ∙ one_less))))
 
 other_ordered : (client : ℕ) (run : Run) (place : ℕ) (next : run_client.ClientTurn) → suc place ≢ client → IsOrdered client run → IsOrdered client (with_client run (suc place) next)
 other_ordered client run place next differs is =

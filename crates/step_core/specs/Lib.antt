@@ -24,3 +24,4 @@ pub mod ShowsDaemon
 pub mod Shows
 pub mod SharedReady
 pub mod RunFacts
+pub mod RunEnds

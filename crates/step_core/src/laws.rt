@@ -2,6 +2,7 @@
 ghost use Rattle.std.specs.Prelude.{ℕ};
 ghost use Rattle.clock_gate.specs.declared.trace.Trace.{Trace};
 ghost use Rattle.step_core.specs.AnswerLaws.{EachAnswer, HasStatus, HasFailedAll};
+ghost use Rattle.step_core.specs.RunEnds.{LinesEnd, RunsEnd};
 ghost use Rattle.step_core.specs.RunFacts.{RunsTell};
 ghost use Rattle.step_core.specs.RunLaws.{AreAnswers, NeverFall, positions_of};
 ghost use Rattle.step_core.specs.RunWhole.{run_of};
@@ -27,4 +28,9 @@ pub fn run_laws()
     // its as-of and bound; an answer with an interval tells its row, the order of its loads, and that its record stood at its first
     // load. What they tell is of the trace and the events before.
     ensures told { RunsTell }
+
+    // Each job is run to its end: after a line of the schedule that asks for so many jobs of a party, so many more have ended or none
+    // is left, and after the whole run no party has a job in hand or left.
+    ensures lines { LinesEnd }
+    ensures ends { RunsEnd }
 {}
