@@ -129,7 +129,7 @@ impl Client {
     {
         match &self.call {
             None => true,
-            Some(call) => call.next() != Act::End,
+            Some(call) => !call.has_ended(),
         }
     }
 

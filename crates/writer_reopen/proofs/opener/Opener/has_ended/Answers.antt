@@ -1,6 +1,6 @@
-use Rattle.std.proofs.Common.{◌≡◌, ℕ, ◌≤◌, length, slice_index, IsTrue, sym, ap, subst, ◌∙◌, arith}
+use Rattle.std.proofs.Common.{ℕ, ◌≤◌, length, sym, ap, subst, ◌∙◌, arith}
 use Rattle.std.proofs.lemmas.Bool.Decides.{nat_tests}
-use Rattle.writer_reopen.specs.Opening.{opening_steps, opening_act}
+use Rattle.writer_reopen.specs.Opening.{opening_act}
 use Rattle.writer_reopen.proofs.Openings.{ended_when_past, past_when_ended}
 use Rattle.writer_reopen.proofs.opener.Opener.has_ended.Goals as goal
 
