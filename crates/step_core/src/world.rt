@@ -157,6 +157,27 @@ impl<'t> World<'t> {
         }
     }
 
+    // Turns of a client until so many of its calls have ended or it has none left.
+    pub(crate) fn client_until(&mut self, number: u32, jobs: u64, most: u64)
+        ensures { self.new ≡ schedule.until_done shared_turn jobs_ended has_job most (Party.Client number) jobs self.old }
+    {
+        if number > 0 && (number as usize) <= self.clients.len() {
+            self.client_until_at(number as usize - 1, jobs, most);
+        }
+    }
+
+    fn client_until_at(&mut self, place: usize, jobs: u64, most: u64)
+        requires { place < length self.old.clients }
+        ensures { self.new ≡ schedule.until_done shared_turn jobs_ended has_job most (Party.Client (place + 1)) jobs self.old }
+    {
+        'turns: for _ in 0..most {
+            if self.clients[place].is_done(jobs) {
+                return;
+            }
+            self.client_turn_at(place);
+        }
+    }
+
     fn client_turn_at(&mut self, place: usize)
         requires { place < length self.old.clients }
         ensures { self.new ≡ client_turn self.old place (slice_get self.old.clients place) }
