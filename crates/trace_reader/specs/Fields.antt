@@ -6,9 +6,13 @@ use Rattle.std.specs.Result.{result_ok}
 use Rattle.std.specs.Str.Parse.{digits_value}
 use Rattle.hex.specs.Hex.{decode_of, is_hex_digit}
 
+-- one decimal digit or more
+abbrev pub is_digits : List ℕ → Bool
+is_digits field = nat_le 1 (length field) && list_all is_ascii_digit field
+
 -- 1 to 20 decimal digits
 abbrev pub is_numeral : List ℕ → Bool
-is_numeral field = nat_le 1 (length field) && nat_le (length field) 20 && list_all is_ascii_digit field
+is_numeral field = is_digits field && nat_le (length field) 20
 
 -- the number that they write, where it is in a range
 unfoldable pub number_in : ℕ → ℕ → List ℕ → Option ℕ

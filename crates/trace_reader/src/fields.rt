@@ -1,9 +1,7 @@
 //! What one field says.
-ghost use Rattle.std.specs.Prelude.{◌≡◌, ◌≤◌, ◌^◌, ◌↔◌, IfOk, IfSome, IfNone, IsSome, IsTrue, option_map, vec_items};
-ghost use Rattle.std.specs.Char.{is_ascii_digit};
-ghost use Rattle.std.specs.List.{list_all};
+ghost use Rattle.std.specs.Prelude.{◌≡◌, ◌==◌, ◌≤◌, ◌^◌, ◌↔◌, IfOk, IfSome, IfNone, IsSome, IsTrue, get_or, option_map, vec_items};
 ghost use Rattle.std.specs.Str.Parse.{digits_value};
-ghost use Rattle.trace_reader.specs.Fields.{IsHexOf, bytes_in, is_numeral, number_in};
+ghost use Rattle.trace_reader.specs.Fields.{IsHexOf, bytes_in, is_digits, number_in};
 
 use hex::FromHexError;
 use std::alloc::{AllocError, Global};
@@ -22,7 +20,7 @@ pub fn number(field: &[u8], low: u64, high: u64) -> Option<u64>
     ensures value { result ≡ number_in low high field.now }
     ensures within { IfSome result (λ n. (low ≤ n) × (n ≤ high)) }
 {
-    if !is_written_number(field) {
+    if field.len() > 20 {
         return None;
     }
     let value = written_value(field)?;
@@ -56,32 +54,25 @@ pub fn bytes_of(
     }
 }
 
-fn is_written_number(field: &[u8]) -> bool
-    ensures { result ≡ is_numeral field.now }
+fn has_plus(field: &[u8]) -> bool
+    ensures { result ≡ (get_or field.now 0 0 == 43) }
 {
-    if field.is_empty() {
-        return false;
+    match field {
+        [] => false,
+        [first, ..] => *first == b'+',
     }
-    if field.len() > 20 {
-        return false;
-    }
-    is_all_digits(field)
 }
 
-fn is_all_digits(field: &[u8]) -> bool
-    ensures { result ≡ list_all is_ascii_digit field.now }
-{
-    field.iter().all(|b| b.is_ascii_digit())
-}
-
-// `parse` alone would accept a sign.
+// The value of one digit or more. `parse` alone would accept a plus.
 fn written_value(field: &[u8]) -> Option<u64>
-    requires { IsTrue (is_numeral field.now) }
-    ensures small { IfSome result (λ n. n ≡ digits_value 10 field.now) }
-    ensures large { IfNone result (2 ^ 64 ≤ digits_value 10 field.now) }
+    ensures digits { IfSome result (λ n. IsTrue (is_digits field.now) × (n ≡ digits_value 10 field.now)) }
+    ensures large { IfNone result (IsTrue (is_digits field.now) → 2 ^ 64 ≤ digits_value 10 field.now) }
 {
+    if has_plus(field) {
+        return None;
+    }
     match std::str::from_utf8(field) {
         Ok(text) => text.parse::<u64>().ok(),
-        Err(_) => unreachable!(),
+        Err(_) => None,
     }
 }
