@@ -1,7 +1,6 @@
 -- The totals over the edges, where the counts at one point change.
-use Rattle.std.proofs.Common.{◌≡◌, ℕ, ◌+◌, ◌<◌, ◌==◌, ◌&&◌, Bool, true, false, cond, List, [], ◌∷◌, Some, None, refl, ap, arith, ℤ, pos, ◌-ℤ◌, ◌≤ℤ◌, ◌<ℤ◌}
+use Rattle.std.proofs.Common.{◌≡◌, ◌≢◌, ℕ, ◌+◌, ◌<◌, List, [], ◌∷◌, Some, None, refl, ap, ◌∙◌, arith, ℤ, pos, ◌-ℤ◌, ◌≤ℤ◌, ◌<ℤ◌}
 use Rattle.std.proofs.lemmas.Int.{ints, by_lt_z}
-use Rattle.std.proofs.lemmas.Bool.Decides.{nat_tests}
 use Rattle.std.proofs.lemmas.Map.Keys.{sorted_head, sorted_tail}
 use Rattle.std.specs.Map.{lookup, remove_entry, keys_of}
 use Rattle.std.specs.BTreeMap.{insert_entry, is_at}
@@ -10,7 +9,7 @@ use Rattle.std.specs.List.Sorted.{IsStrictlySortedBy}
 use Rattle.bound_agree.specs.declared.edge.Edge.{Edge}
 use Rattle.bound_agree.specs.declared.edge.Edge.TheVariants.{First, Past}
 use Rattle.bound_agree.specs.declared.edge.Counts.{Counts}
-use Rattle.bound_agree.specs.Edges.{count_of, if_same, IsOneMore, nothing, counts_at, put_counts, gate, total_to, IsAbove, Rises, IsKey, AreKeys, Grows, Adds, SameTotals, edge_of}
+use Rattle.bound_agree.specs.Edges.{count_of, if_same, IsOneMore, nothing, counts_at, gate, total_to, IsAbove, Rises, IsKey, AreKeys, Grows, Adds, SameTotals, edge_of}
 use Rattle.bound_agree.specs.Span.{SpanEnds}
 use Rattle.bound_agree.proofs.Order.{int_le-false, int_le-true, cmp-less, cmp-greater, cmp-equal, less-cmp}
 
@@ -69,23 +68,6 @@ removed edge x at ((k, d) ∷ rest) low a =
     (λ greater. rw (cmp-greater at k greater) (omega (arith, removed edge x at rest k a.1)))
     (λ le. let same : at ≡ k = omega (arith, ints, ge, le) in rw same (rw (cmp-equal k k refl) (omega arith))))
 
-none_of : (edge : Edge) (c : Counts) → ((c.first == 0) && (c.past == 0)) ≡ true → count_of edge c ≡ 0
-none_of First c h = grind (arith, nat_tests)
-none_of Past c h = grind (arith, nat_tests)
-
--- whatever the new counts are, each total changes by the difference
-put_by : (edge : Edge) (x at : ℤ) (c : Counts) (es : List (ℤ × Counts)) (low : ℤ) (none : Bool) → (none ≡ true → count_of edge c ≡ 0) → IsAbove low es
-    → total_to edge x (cond none (remove_entry (is_at (int_cmp at)) es) (insert_entry int_cmp es at c)) + gate at x (count_of edge (counts_at at es)) ≡ total_to edge x es + gate at x (count_of edge c)
-put_by edge x at c es low true zero a = rw (zero refl) (omega (arith, gate-zero at x, removed edge x at es low a))
-put_by edge x at c es low false zero a = inserted edge x at c es low a
-
-put_at : (edge : Edge) (x at : ℤ) (c : Counts) (es : List (ℤ × Counts)) → Rises es
-    → total_to edge x (put_counts es at c) + gate at x (count_of edge (counts_at at es)) ≡ total_to edge x es + gate at x (count_of edge c)
-unfolding put_counts
-put_at edge x at c es up =
-    let low = low_of es up in
-    put_by edge x at c es low.0 ((c.first == 0) && (c.past == 0)) (none_of edge c) low.1
-
 -- ---- One span more or fewer with an edge
 gate_more : (edge other : Edge) (k x : ℤ) (c d : Counts) → IsOneMore edge c d → gate k x (count_of other d) ≡ gate k x (count_of other c) + if_same edge other (gate k x 1)
 gate_more First First k x c d h = rw h.first (gate-add k x c.first 1)
@@ -93,13 +75,50 @@ gate_more First Past k x c d h = let same : d.past ≡ c.past = omega (arith, h.
 gate_more Past First k x c d h = let same : d.first ≡ c.first = omega (arith, h.first) in rw same (omega arith)
 gate_more Past Past k x c d h = rw h.past (gate-add k x c.past 1)
 
-pub raised : (edge : Edge) (at : ℤ) (c d : Counts) (es fs : List (ℤ × Counts)) → Rises es → c ≡ counts_at at es → IsOneMore edge c d → fs ≡ put_counts es at d → Grows edge at es fs
+pub raised : (edge : Edge) (at : ℤ) (c d : Counts) (es fs : List (ℤ × Counts)) → Rises es → c ≡ counts_at at es → IsOneMore edge c d → fs ≡ insert_entry int_cmp es at d → Grows edge at es fs
 raised edge at c d es fs up was more is other x =
-    rw is (omega (arith, put_at other x at d es up, gate_more edge other at x c d more, ap (λ (e : Counts). gate at x (count_of other e)) was))
+    let low = low_of es up in
+    rw is (omega (arith, inserted other x at d es low.0 low.1, gate_more edge other at x c d more, ap (λ (e : Counts). gate at x (count_of other e)) was))
 
-pub lowered_by : (edge : Edge) (at : ℤ) (c d : Counts) (es fs : List (ℤ × Counts)) → Rises es → d ≡ counts_at at es → IsOneMore edge c d → fs ≡ put_counts es at c → Grows edge at fs es
-lowered_by edge at c d es fs up was more is other x =
-    rw is (omega (arith, put_at other x at c es up, gate_more edge other at x c d more, ap (λ (e : Counts). gate at x (count_of other e)) was))
+pub lessened : (edge : Edge) (at : ℤ) (c d : Counts) (es fs : List (ℤ × Counts)) → Rises es → d ≡ counts_at at es → IsOneMore edge c d → fs ≡ insert_entry int_cmp es at c → Grows edge at fs es
+lessened edge at c d es fs up was more is other x =
+    let low = low_of es up in
+    rw is (omega (arith, inserted other x at c es low.0 low.1, gate_more edge other at x c d more, ap (λ (e : Counts). gate at x (count_of other e)) was))
+
+-- the last span with an edge at the point takes the entry with it
+pub emptied : (edge : Edge) (at : ℤ) (c d : Counts) (es fs : List (ℤ × Counts)) → Rises es → d ≡ counts_at at es → IsOneMore edge c d → c ≡ nothing → fs ≡ remove_entry (is_at (int_cmp at)) es → Grows edge at fs es
+emptied edge at c d es fs up was more none is other x =
+    let low = low_of es up in
+    let zero = ap (λ (e : Counts). gate at x (count_of other e)) none ∙ ap (λ (n : ℕ). gate at x n) (zero_of other) ∙ gate-zero at x in
+    rw is (omega (arith, removed other x at es low.0 low.1, gate_more edge other at x c d more, zero, ap (λ (e : Counts). gate at x (count_of other e)) was))
+
+-- the entry removed is the only one at its point
+unkeyed_later : (at : ℤ) (es : List (ℤ × Counts)) (low : ℤ) → IsAbove low es → lookup (is_at (int_cmp at)) (remove_entry (is_at (int_cmp at)) es) ≡ None
+unkeyed_later at [] low a = refl
+unkeyed_later at ((k, d) ∷ rest) low a =
+    by_lt_z at k
+    (λ less. rw (cmp-less at k less, cmp-less at k less) (unkeyed_later at rest k a.1))
+    (λ ge. by_lt_z k at
+    (λ greater. rw (cmp-greater at k greater, cmp-greater at k greater) (unkeyed_later at rest k a.1))
+    (λ le. let same : at ≡ k = omega (arith, ints, ge, le) in rw (cmp-equal at k same) (unkeyed k at rest a.1 le)))
+
+keyed : (at : ℤ) (c : Counts) (es : List (ℤ × Counts)) → lookup (is_at (int_cmp at)) (insert_entry int_cmp es at c) ≡ Some c
+keyed at c [] = rw (cmp-equal at at refl) refl
+keyed at c ((k, d) ∷ rest) =
+    by_lt_z at k
+    (λ less. rw (cmp-less at k less, cmp-equal at at refl) refl)
+    (λ ge. by_lt_z k at
+    (λ greater. rw (cmp-greater at k greater, cmp-greater at k greater) (keyed at c rest))
+    (λ le. let same : at ≡ k = omega (arith, ints, ge, le) in rw (cmp-equal at k same, cmp-equal at k same) refl))
+
+pub gone : (at : ℤ) (es fs : List (ℤ × Counts)) → Rises es → fs ≡ remove_entry (is_at (int_cmp at)) es → lookup (is_at (int_cmp at)) fs ≢ Some nothing
+gone at es fs up is e =
+    let low = low_of es up in
+    let none = unkeyed_later at es low.0 low.1 in
+    absurd (cc (rw is at e, none))
+
+pub stays : (at : ℤ) (c : Counts) (es fs : List (ℤ × Counts)) → c ≢ nothing → fs ≡ insert_entry int_cmp es at c → lookup (is_at (int_cmp at)) fs ≢ Some nothing
+stays at c es fs some is e = some (cc (rw is at e, keyed at c es))
 
 -- where there is no entry the counts are 0
 pub absent : (edge : Edge) (at : ℤ) (es : List (ℤ × Counts)) → lookup (is_at (int_cmp at)) es ≡ None → count_of edge (counts_at at es) ≡ 0
@@ -147,14 +166,6 @@ keys_remove at ((k, d) ∷ rest) keys =
     (λ ge. by_lt_z k at
     (λ greater. rw (cmp-greater at k greater) (keys.0, keys_remove at rest keys.1))
     (λ le. let same : at ≡ k = omega (arith, ints, ge, le) in rw (cmp-equal at k same) keys.1))
-
-keys_either : (at : ℤ) (c : Counts) (es : List (ℤ × Counts)) (none : Bool) → IsKey at → AreKeys es → AreKeys (cond none (remove_entry (is_at (int_cmp at)) es) (insert_entry int_cmp es at c))
-keys_either at c es true key keys = keys_remove at es keys
-keys_either at c es false key keys = keys_insert at c es key keys
-
-pub keys_put : (at : ℤ) (c : Counts) (es : List (ℤ × Counts)) → IsKey at → AreKeys es → AreKeys (put_counts es at c)
-unfolding put_counts
-keys_put at c es key keys = keys_either at c es ((c.first == 0) && (c.past == 0)) key keys
 
 -- ---- Both edges of a span
 pub added : (s : SpanEnds) (first past : ℤ) (es fs gs : List (ℤ × Counts)) → first ≡ edge_of First s → past ≡ edge_of Past s

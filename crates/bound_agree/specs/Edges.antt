@@ -1,9 +1,9 @@
 -- The edges of the spans of a board, in an ordered map that tells how many spans have an edge at each point.
-use Rattle.std.specs.Prelude.{◌≡◌, ℕ, ◌+◌, ◌^◌, ◌<◌, ◌==◌, ◌&&◌, Bool, false, if◌then◌else◌, List, [], ◌∷◌, length, Option, Some, None, ⊤, ℤ, pos, neg_ℤ, ◌+ℤ◌, ◌-ℤ◌, int_le, ◌≤ℤ◌, ◌<ℤ◌}
+use Rattle.std.specs.Prelude.{◌≡◌, ℕ, ◌+◌, ◌^◌, ◌<◌, Bool, false, if◌then◌else◌, List, [], ◌∷◌, length, Option, Some, None, ⊤, ℤ, pos, neg_ℤ, ◌+ℤ◌, ◌-ℤ◌, int_le, ◌≤ℤ◌, ◌<ℤ◌}
 use Rattle.std.specs.Option.{unwrap_or}
 use Rattle.std.specs.List.{count_by}
-use Rattle.std.specs.Map.{lookup, remove_entry}
-use Rattle.std.specs.BTreeMap.{insert_entry, is_at}
+use Rattle.std.specs.Map.{lookup}
+use Rattle.std.specs.BTreeMap.{is_at}
 use Rattle.std.specs.Ordering.{int_cmp}
 use Rattle.bound_agree.specs.declared.board.TheConstants.{MOST_SERVERS}
 use Rattle.bound_agree.specs.declared.edge.Edge.{Edge}
@@ -41,11 +41,6 @@ nothing = record { first = 0; past = 0 }
 -- the counts at a point
 unfoldable pub counts_at : ℤ → List (ℤ × Counts) → Counts
 counts_at at es = unwrap_or (lookup (is_at (int_cmp at)) es) nothing
-
--- the map with these counts at a point; where there are none the point has no entry
-unfoldable pub put_counts : List (ℤ × Counts) → ℤ → Counts → List (ℤ × Counts)
-put_counts es at c =
-    if (c.first == 0) && (c.past == 0) then remove_entry (is_at (int_cmp at)) es else insert_entry int_cmp es at c
 
 -- a number, where k is not after x
 abbrev pub gate : ℤ → ℤ → ℕ → ℕ

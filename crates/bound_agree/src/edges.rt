@@ -1,46 +1,22 @@
 //! The edges of spans in an ordered map, with how many spans have an edge at each point.
-ghost use Rattle.std.specs.Prelude.{◌≡◌, ◌^◌, ◌<◌, ℤ, pos, ◌-ℤ◌, Some, None, OnOk, OnErr};
+ghost use Rattle.std.specs.Prelude.{◌≡◌, ◌≢◌, ◌^◌, ◌<◌, ℤ, pos, ◌-ℤ◌, Some, None, OnOk, OnErr};
 ghost use Rattle.std.specs.BTreeMap.{is_at};
 ghost use Rattle.std.specs.Map.{lookup};
 ghost use Rattle.std.specs.Ordering.{int_cmp};
 ghost use Rattle.bound_agree.specs.declared.edge.Edge.{Edge as Kind};
-ghost use Rattle.bound_agree.specs.Edges.{counts_at, edge_of as place_of, put_counts, total_to, Adds, AreKeys, Grows, HasEdges, IsKey, IsSpan, Rises, SameTotals};
+ghost use Rattle.bound_agree.specs.Edges.{edge_of as place_of, nothing, total_to, Adds, AreKeys, Grows, HasEdges, IsKey, IsSpan, Rises, SameTotals};
 
 use crate::edge::{Counts, Edge, Point, edge_of, one_fewer, one_more};
 use crate::span::Span;
 use std::alloc::AllocError;
 use std::collections::BTreeMap;
+use std::collections::btree_map::Entry;
 
-#[tactic(auto, unfolding(crate::specs::Edges::counts_at))]
-fn counts(edges: &BTreeMap<i64, Counts>, at: Point) -> Counts
-    ensures { result ≡ counts_at at.0 edges.now.entries }
-{
-    edges
-        .get(&at.0)
-        .copied()
-        .unwrap_or(Counts { first: 0, past: 0 })
-}
-
-#[tactic(auto, using(crate::proofs::Edits::rises_from, crate::proofs::Edits::keys_put, crate::proofs::Edits::keys_insert, crate::proofs::Edits::keys_remove), unfolding(crate::specs::Edges::put_counts))]
-fn set(edges: &mut BTreeMap<i64, Counts>, at: Point, counts: Counts) -> Result<(), AllocError>
-    requires key { IsKey at.0 }
-    requires keys { AreKeys edges.old.entries }
-    ensures keys { AreKeys edges.new.entries }
-    ensures rises { Rises edges.new.entries }
-    ensures done { OnOk result (edges.new.entries ≡ put_counts edges.old.entries at.0 counts) }
-    ensures err { OnErr result (edges.new.entries ≡ edges.old.entries) }
-    ensures absent { OnErr result (lookup (is_at (int_cmp at.0)) edges.old.entries ≡ None) }
-{
-    if counts.first == 0 && counts.past == 0 {
-        edges.remove(&at.0);
-        return Ok(());
-    }
-    edges.insert(at.0, counts)?;
-    Ok(())
-}
+// The counts where no span has an edge.
+const NONE: Counts = Counts { first: 0, past: 0 };
 
 // One span more has this edge here.
-#[tactic(auto, using(crate::proofs::Edits::there))]
+#[tactic(auto, using(crate::proofs::Edits::there, crate::proofs::Edits::rises_from, crate::proofs::Edits::keys_insert, crate::proofs::Edits::raised), unfolding(crate::specs::Edges::counts_at))]
 fn raise(edges: &mut BTreeMap<i64, Counts>, at: Point, edge: Edge) -> Result<(), AllocError>
     requires key { IsKey at.0 }
     requires keys { AreKeys edges.old.entries }
@@ -51,13 +27,13 @@ fn raise(edges: &mut BTreeMap<i64, Counts>, at: Point, edge: Edge) -> Result<(),
     ensures done { OnOk result (Grows edge at.0 edges.old.entries edges.new.entries) }
     ensures err { OnErr result (edges.new.entries ≡ edges.old.entries) }
 {
-    let found = counts(edges, at);
-    set(edges, at, one_more(found, edge))?;
+    let counts = edges.entry(at.0)?.or_insert(NONE);
+    *counts = one_more(*counts, edge);
     Ok(())
 }
 
-// One span fewer has this edge here. Never takes memory: the point has an entry.
-#[tactic(auto, using(crate::proofs::Edits::there, crate::proofs::Edits::absent))]
+// One span fewer has this edge here. Never takes memory: the point has an entry, which goes with its last span.
+#[tactic(auto, using(crate::proofs::Edits::there, crate::proofs::Edits::absent, crate::proofs::Edits::rises_from, crate::proofs::Edits::keys_insert, crate::proofs::Edits::keys_remove, crate::proofs::Edits::lessened, crate::proofs::Edits::emptied), unfolding(crate::specs::Edges::counts_at))]
 fn lower(edges: &mut BTreeMap<i64, Counts>, at: Point, edge: Edge)
     requires key { IsKey at.0 }
     requires keys { AreKeys edges.old.entries }
@@ -66,10 +42,18 @@ fn lower(edges: &mut BTreeMap<i64, Counts>, at: Point, edge: Edge)
     ensures keys { AreKeys edges.new.entries }
     ensures rises { Rises edges.new.entries }
     ensures done { Grows edge at.0 edges.new.entries edges.old.entries }
+    ensures gone { lookup (is_at (int_cmp at.0)) edges.new.entries ≢ Some nothing }
 {
-    let found = counts(edges, at);
-    match set(edges, at, one_fewer(found, edge)) {
-        Ok(()) => {}
+    match edges.entry(at.0) {
+        Ok(Entry::Occupied(mut entry)) => {
+            let counts = one_fewer(*entry.get(), edge);
+            if counts == NONE {
+                entry.remove();
+            } else {
+                entry.insert(counts);
+            }
+        }
+        Ok(Entry::Vacant(_)) => unreachable!(),
         Err(_) => unreachable!(),
     }
 }
