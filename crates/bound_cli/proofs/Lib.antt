@@ -1,3 +1,4 @@
 pub mod Appended
+pub mod Dated
 pub mod LineEnds
 pub mod ReportLines

@@ -1,7 +1,7 @@
 -- The lines of a report with civil times: the line of an answer with an interval has two more fields at its end, the date and time
 -- of earliest and that of latest. All other lines are the same.
-use Rattle.std.specs.Prelude.{ℕ, ◌-◌, List, ◌++◌, length, take, codes, Option, Some, None}
-use Rattle.civil_time.specs.Civil.{civil_text}
+use Rattle.std.specs.Prelude.{ℕ, ◌-◌, List, ◌++◌, length, take, codes, Option, Some, None, IfSome}
+use Rattle.civil_time.specs.Civil.{civil_text, IsInstant}
 use Rattle.interval_now.specs.declared.answers.Interval.{Interval}
 use Rattle.interval_now.specs.declared.answers.Answer.{Answer}
 use Rattle.interval_now.specs.declared.answers.Answer.TheVariants as answers
@@ -49,3 +49,7 @@ civil_line line = with_civil (line_text line) (interval_in line)
 abbrev pub line_with : Times → Printed → List ℕ
 line_with Nanoseconds line = line_text line
 line_with Civil line = civil_line line
+
+-- earliest and latest, where a line tells an interval, are instants of years of four digits: each has exactly one date and time
+abbrev pub HasDates : Printed → Type 0
+HasDates line = IfSome (interval_in line) (λ i. IsInstant i.earliest × IsInstant i.latest)

@@ -1,12 +1,15 @@
 -- What a report is worth: of a trace, what holds of every client's answers in its run; of a generated day, that its promises are kept.
-use Rattle.std.specs.Prelude.{◌≡◌, ℕ, reverse}
+use Rattle.std.specs.Prelude.{◌≡◌, ℕ, reverse, All}
 use Rattle.clock_gate.specs.declared.trace.Trace.{Trace}
+use Rattle.vmclock_page.specs.Host.{count_of}
 use Rattle.step_core.specs.AnswerLaws.{EachAnswer, HasFailedAll, HasStatus}
 use Rattle.step_core.specs.RunLaws.{AreAnswers, NeverFall, positions_of}
 use Rattle.step_core.specs.RunWhole.{run_of}
 use Rattle.drill_day.specs.Day.{day_of}
 use Rattle.run_promises.specs.Judged.{premises_of, EachTrusted, KeepsPromise}
 use Rattle.run_promises.specs.declared.premises.Premises.TheVariants.{Held}
+use Rattle.bound_cli.specs.Civil.{HasDates}
+use Rattle.bound_cli.specs.Replay.{printed_of}
 
 pub record IsServed (trace : Trace) : Type 0 where
   -- each interval comes from one whole published record, where fewer publications than the layout's period fall within its read
@@ -20,6 +23,8 @@ pub record IsServed (trace : Trace) : Type 0 where
   pub marked : EachAnswer (HasStatus trace (run_of trace).segment) (run_of trace).events
   -- Busy means that every try met an odd or changed generation
   pub busy : EachAnswer (HasFailedAll trace (run_of trace)) (run_of trace).events
+  -- each earliest and latest that is printed has a date: exactly one, and one time of the day
+  pub dated : All (λ event. HasDates (printed_of (count_of trace.page) event)) (run_of trace).events
 
 -- in the run of a generated day each promise is kept
 abbrev pub DayHolds : (seed polls : ℕ) → Type 0

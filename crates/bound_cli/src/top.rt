@@ -74,7 +74,7 @@ pub fn serve<S: Source, K: Sink>(
     // What a replayed report is worth: each interval comes from one whole published record, if fewer publications than its layout's
     // period fall within its read, and from none older than its client had seen; called Synchronized or Free Running it contains true
     // time where replies, drift and marks kept their promises; an unabsorbed mark makes it Disrupted; Busy means every try met an odd
-    // or changed generation.
+    // or changed generation. Each earliest and latest that it prints has exactly one date and time.
     ensures served { (times : Times) (bytes : List ℕ) (trace : Trace) → result ≡ Status.Ok
         → command_of (map string_bytes words.now.items) ≡ Ok (Command.Replay times) → S.left source.old ≡ Some bytes → trace_in bytes ≡ Ok trace
         → IsServed trace }
