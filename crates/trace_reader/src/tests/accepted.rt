@@ -53,7 +53,7 @@ clock,9,1
 ";
 
 #[test]
-fn a_trace_is_what_its_lines_say(rt: HostRuntime) -> Result<(), Fail> {
+fn settings_image_and_page_are_those_of_the_lines(rt: HostRuntime) -> Result<(), Fail> {
     let Some(trace) = trace(rt.alloc(), LINES)? else {
         assert!(rt; false, "refused");
         return Ok(());
@@ -76,6 +76,15 @@ fn a_trace_is_what_its_lines_say(rt: HostRuntime) -> Result<(), Fail> {
     ];
     assert!(rt; trace.image == image);
     assert!(rt; trace.page == Some(PAGE_WORDS));
+    Ok(())
+}
+
+#[test]
+fn clock_rows_are_those_of_the_lines(rt: HostRuntime) -> Result<(), Fail> {
+    let Some(trace) = trace(rt.alloc(), LINES)? else {
+        assert!(rt; false, "refused");
+        return Ok(());
+    };
     let clock = [
         ClockRow {
             mono: 5,
@@ -94,6 +103,15 @@ fn a_trace_is_what_its_lines_say(rt: HostRuntime) -> Result<(), Fail> {
         },
     ];
     assert!(rt; trace.clock.as_slice() == clock.as_slice());
+    Ok(())
+}
+
+#[test]
+fn the_host_has_a_row_for_each_of_its_lines(rt: HostRuntime) -> Result<(), Fail> {
+    let Some(trace) = trace(rt.alloc(), LINES)? else {
+        assert!(rt; false, "refused");
+        return Ok(());
+    };
     let mut marked = PAGE_WORDS;
     marked[2] = 9;
     let host = [
@@ -105,6 +123,15 @@ fn a_trace_is_what_its_lines_say(rt: HostRuntime) -> Result<(), Fail> {
         HostRow::Clock(3),
     ];
     assert!(rt; trace.host.as_slice() == host.as_slice());
+    Ok(())
+}
+
+#[test]
+fn calls_turns_and_their_order_are_those_of_the_lines(rt: HostRuntime) -> Result<(), Fail> {
+    let Some(trace) = trace(rt.alloc(), LINES)? else {
+        assert!(rt; false, "refused");
+        return Ok(());
+    };
     let calls = [
         CallRow {
             client: 3,
@@ -195,8 +222,8 @@ fn a_page_is_its_fields(rt: HostRuntime) -> Result<(), Fail> {
 }
 
 #[test]
-fn texts_are_accepted(rt: HostRuntime) -> Result<(), Fail> {
-    let cases: [(&str, &[u8]); 18] = [
+fn a_text_may_be_spelled_in_several_ways(rt: HostRuntime) -> Result<(), Fail> {
+    let cases: [(&str, &[u8]); 8] = [
         ("leading zero", b"clockbound-trace,01\nclock,5,6"),
         (
             "byte order mark",
@@ -214,6 +241,17 @@ fn texts_are_accepted(rt: HostRuntime) -> Result<(), Fail> {
             b"\n\nclockbound-trace,1\n\r\n\nclock,5,6\n\n",
         ),
         ("no end", b"clockbound-trace,1\nclock,5,6"),
+    ];
+    for (case, text) in cases {
+        let text = spelled(rt.alloc(), text)?;
+        assert_eq!(rt; refusal(rt.alloc(), text.as_slice())?, None, "{case}");
+    }
+    Ok(())
+}
+
+#[test]
+fn a_trace_may_have_these_lines(rt: HostRuntime) -> Result<(), Fail> {
+    let cases: [(&str, &[u8]); 10] = [
         ("equal times", b"clockbound-trace,1\nclock,5,6\nclock,5,6\n"),
         (
             "missing reply",

@@ -1,12 +1,20 @@
 //! Texts that are refused, each by its first record that is and by the first reason against it.
 use super::texts::{headed, refusal, spelled};
 use crate::{Reason, TraceFault};
+use std::alloc::{AllocError, Global};
 use std::test::Fail;
 
+// The first fault of a trace whose third record this is, after a clock row.
+fn fault_of(alloc: Global, record: &[u8]) -> Result<Option<TraceFault>, AllocError> {
+    let mut lines = Vec::from_slice(alloc, b"clock,5,6\n")?;
+    lines.extend_from_slice(record)?;
+    let text = headed(alloc, lines.as_slice())?;
+    refusal(alloc, text.as_slice())
+}
+
 #[test]
-fn a_record_by_itself_is_refused(rt: HostRuntime) -> Result<(), Fail> {
-    let cases: [(&[u8], Reason); 52] = [
-        // what it is
+fn a_record_of_no_kind_is_refused(rt: HostRuntime) -> Result<(), Fail> {
+    let cases: [(&[u8], Reason); 10] = [
         (b"pole", Reason::Kind),
         (b"\"\"", Reason::Kind),
         (b"Clock,5,6", Reason::Kind),
@@ -17,7 +25,17 @@ fn a_record_by_itself_is_refused(rt: HostRuntime) -> Result<(), Fail> {
         (b"set,speed", Reason::Kind),
         (b"set,speed,1", Reason::Kind),
         (b"report", Reason::Kind),
-        // how many fields it has
+    ];
+    for (record, reason) in cases {
+        let found = fault_of(rt.alloc(), record)?;
+        assert_eq!(rt; found, Some(TraceFault { line: 3, reason }), "{record:?}");
+    }
+    Ok(())
+}
+
+#[test]
+fn a_record_with_too_few_or_too_many_fields_is_refused(rt: HostRuntime) -> Result<(), Fail> {
+    let cases: [(&[u8], Reason); 15] = [
         (b"set", Reason::Fields),
         (b"set,drift", Reason::Fields),
         (b"set,drift,x,", Reason::Fields),
@@ -33,7 +51,17 @@ fn a_record_by_itself_is_refused(rt: HostRuntime) -> Result<(), Fail> {
         (b"call", Reason::Fields),
         (b"run,h", Reason::Fields),
         (b"do,h,1,1", Reason::Fields),
-        // its fields, from the left
+    ];
+    for (record, reason) in cases {
+        let found = fault_of(rt.alloc(), record)?;
+        assert_eq!(rt; found, Some(TraceFault { line: 3, reason }), "{record:?}");
+    }
+    Ok(())
+}
+
+#[test]
+fn a_field_that_is_no_number_of_its_range_is_refused(rt: HostRuntime) -> Result<(), Fail> {
+    let cases: [(&[u8], Reason); 22] = [
         (b"clockbound-trace,2", Reason::Number),
         (b"set,drift,1000000001", Reason::Number),
         (b"set,tries,0", Reason::Number),
@@ -56,6 +84,18 @@ fn a_record_by_itself_is_refused(rt: HostRuntime) -> Result<(), Fail> {
         (b"run,h1,1", Reason::Number),
         (b"run,h,0", Reason::Number),
         (b"do,d,1000001", Reason::Number),
+    ];
+    for (record, reason) in cases {
+        let found = fault_of(rt.alloc(), record)?;
+        assert_eq!(rt; found, Some(TraceFault { line: 3, reason }), "{record:?}");
+    }
+    Ok(())
+}
+
+// Of two wrong fields the left one is told.
+#[test]
+fn a_field_that_does_not_stand_for_bytes_is_refused(rt: HostRuntime) -> Result<(), Fail> {
+    let cases: [(&[u8], Reason); 5] = [
         (b"poll,0g", Reason::Hex),
         (b"poll,0,11", Reason::Hex),
         (b"image,", Reason::Hex),
@@ -63,19 +103,15 @@ fn a_record_by_itself_is_refused(rt: HostRuntime) -> Result<(), Fail> {
         (b"page,0", Reason::Hex),
     ];
     for (record, reason) in cases {
-        let mut lines = Vec::from_slice(rt.alloc(), b"clock,5,6\n")?;
-        lines.extend_from_slice(record)?;
-        let text = headed(rt.alloc(), lines.as_slice())?;
-        let found = refusal(rt.alloc(), text.as_slice())?;
+        let found = fault_of(rt.alloc(), record)?;
         assert_eq!(rt; found, Some(TraceFault { line: 3, reason }), "{record:?}");
     }
     Ok(())
 }
 
 #[test]
-fn a_record_after_others_is_refused(rt: HostRuntime) -> Result<(), Fail> {
-    let cases: [(&[u8], u32, Reason); 37] = [
-        // its place
+fn a_record_out_of_its_place_is_refused(rt: HostRuntime) -> Result<(), Fail> {
+    let cases: [(&[u8], u32, Reason); 14] = [
         (b"clockbound-trace,1", 2, Reason::Order),
         (b"set,drift,1\nset,drift,1", 3, Reason::Order),
         (b"set,tries,1\nset,drift,1\nset,tries,2", 4, Reason::Order),
@@ -90,7 +126,18 @@ fn a_record_after_others_is_refused(rt: HostRuntime) -> Result<(), Fail> {
         (b"clock,5,6\nimage,5I", 3, Reason::Order),
         (b"run,h,1", 2, Reason::Order),
         (b"do,c1,1", 2, Reason::Order),
-        // the clock
+    ];
+    for (lines, line, reason) in cases {
+        let text = headed(rt.alloc(), lines)?;
+        let found = refusal(rt.alloc(), text.as_slice())?;
+        assert_eq!(rt; found, Some(TraceFault { line, reason }), "{lines:?}");
+    }
+    Ok(())
+}
+
+#[test]
+fn a_missing_clock_or_one_that_goes_back_is_refused(rt: HostRuntime) -> Result<(), Fail> {
+    let cases: [(&[u8], u32, Reason); 13] = [
         (b"", 2, Reason::NoClock),
         (b"\n\r\n", 2, Reason::NoClock),
         (b"page,P\nset,drift,1", 4, Reason::NoClock),
@@ -108,7 +155,18 @@ fn a_record_after_others_is_refused(rt: HostRuntime) -> Result<(), Fail> {
             5,
             Reason::ClockBack,
         ),
-        // the page
+    ];
+    for (lines, line, reason) in cases {
+        let text = headed(rt.alloc(), lines)?;
+        let found = refusal(rt.alloc(), text.as_slice())?;
+        assert_eq!(rt; found, Some(TraceFault { line, reason }), "{lines:?}");
+    }
+    Ok(())
+}
+
+#[test]
+fn a_page_or_an_image_that_is_not_admitted_is_refused(rt: HostRuntime) -> Result<(), Fail> {
+    let cases: [(&[u8], u32, Reason); 10] = [
         (b"page,", 2, Reason::Page),
         (b"page,V", 2, Reason::Page),
         (b"clock,5,6\npage,P", 3, Reason::Page),
@@ -116,7 +174,6 @@ fn a_record_after_others_is_refused(rt: HostRuntime) -> Result<(), Fail> {
         (b"page,P\nclock,5,6\npage,V", 4, Reason::Page),
         (b"page,P\nclock,5,6\npage,Q", 4, Reason::Page),
         (b"page,Q\nclock,5,6\nmark,8\npage,P", 5, Reason::Page),
-        // the image
         (b"image,5I", 2, Reason::Image),
         (b"image,4J", 2, Reason::Image),
         (b"set,layout,2\nimage,4J", 3, Reason::Image),
