@@ -20,7 +20,7 @@ fn is_refused(alloc: Global, text: &[u8], line: u32, reason: Reason) -> bool {
 
 #[test]
 fn questions_are_answered_by_the_spans_as_they_are(rt: HostRuntime) {
-    let cases: [(&str, &[u8], &[u8]); 9] = [
+    let cases: [(&str, &[u8], &[u8]); 7] = [
         (
             "spans come and go",
             b"agree-trace,1\nset,1,10,20\nset,2,15,25\nset,3,18,30\nset,4,40,50\nask,0\nask,1\nask,2\nask,3\ndrop,4\nask,0,19\nask,3\n",
@@ -52,6 +52,15 @@ fn questions_are_answered_by_the_spans_as_they_are(rt: HostRuntime) {
             b"agree-trace,1\nset,1,1,9\nset,1,3,4\ndrop,2\nask,0\nask,1000\n",
             b"agree-report,1\nagree,1,3,4\nagree,1\n",
         ),
+    ];
+    for (case, text, want) in cases {
+        assert!(rt; tells(rt.alloc(), text, want), "{case}");
+    }
+}
+
+#[test]
+fn a_text_that_is_spelled_otherwise_tells_the_same(rt: HostRuntime) {
+    let cases: [(&str, &[u8], &[u8]); 2] = [
         (
             "leading zeros",
             b"agree-trace,01\nset,001,-00000000000000000005,00000000000000000005\nask,00\n",
@@ -69,8 +78,8 @@ fn questions_are_answered_by_the_spans_as_they_are(rt: HostRuntime) {
 }
 
 #[test]
-fn the_first_refused_record_is_told_with_its_first_reason(rt: HostRuntime) {
-    let cases: [(&[u8], u32, Reason); 32] = [
+fn a_text_whose_first_record_is_no_header_is_refused(rt: HostRuntime) {
+    let cases: [(&[u8], u32, Reason); 8] = [
         (b"", 1, Reason::Kind),
         (b"\n\n", 1, Reason::Kind),
         (b"x", 1, Reason::Kind),
@@ -78,6 +87,16 @@ fn the_first_refused_record_is_told_with_its_first_reason(rt: HostRuntime) {
         (b"agree-trace\n", 1, Reason::Fields),
         (b"agree-trace,1,1\n", 1, Reason::Fields),
         (b"agree-trace,2\n", 1, Reason::Number),
+        (b"ask,0\n", 1, Reason::Order),
+    ];
+    for (text, line, reason) in cases {
+        assert!(rt; is_refused(rt.alloc(), text, line, reason), "{text:?}");
+    }
+}
+
+#[test]
+fn a_record_of_no_kind_or_of_other_fields_is_refused(rt: HostRuntime) {
+    let cases: [(&[u8], u32, Reason); 9] = [
         (b"agree-trace,1\nx\n", 2, Reason::Kind),
         (b"agree-trace,1\n\nx\n", 2, Reason::Kind),
         (b"agree-trace,1\n,\n", 2, Reason::Kind),
@@ -87,6 +106,15 @@ fn the_first_refused_record_is_told_with_its_first_reason(rt: HostRuntime) {
         (b"agree-trace,1\ndrop,1,2\n", 2, Reason::Fields),
         (b"agree-trace,1\nask\n", 2, Reason::Fields),
         (b"agree-trace,1\nask,1,2,3\n", 2, Reason::Fields),
+    ];
+    for (text, line, reason) in cases {
+        assert!(rt; is_refused(rt.alloc(), text, line, reason), "{text:?}");
+    }
+}
+
+#[test]
+fn a_field_that_is_no_number_of_its_range_is_refused(rt: HostRuntime) {
+    let cases: [(&[u8], u32, Reason); 13] = [
         (b"agree-trace,1\nset,1,5,4\n", 2, Reason::Number),
         (b"agree-trace,1\nset,0,4,5\n", 2, Reason::Number),
         (b"agree-trace,1\nset,1001,4,5\n", 2, Reason::Number),
@@ -112,7 +140,15 @@ fn the_first_refused_record_is_told_with_its_first_reason(rt: HostRuntime) {
         (b"agree-trace,1\nask,1001\n", 2, Reason::Number),
         (b"agree-trace,1\nask,-1\n", 2, Reason::Number),
         (b"agree-trace,1\nask,0,x\n", 2, Reason::Number),
-        (b"ask,0\n", 1, Reason::Order),
+    ];
+    for (text, line, reason) in cases {
+        assert!(rt; is_refused(rt.alloc(), text, line, reason), "{text:?}");
+    }
+}
+
+#[test]
+fn the_first_refused_record_is_told_with_its_first_reason(rt: HostRuntime) {
+    let cases: [(&[u8], u32, Reason); 2] = [
         (b"agree-trace,1\nask,0\nagree-trace,1\n", 3, Reason::Order),
         (
             b"agree-trace,1\ndrop,1\nagree-trace,2\nx\n",
