@@ -1,3 +1,5 @@
+ghost use Rattle.vmclock_time.specs.Reads.{BeginsWithPage};
+
 use crate::{PageFailed, PageRow, PageTimeFault, PageTold, PageWhy, page_report, page_time};
 use clock_gate::Memory;
 use std::alloc::Global;
@@ -77,10 +79,10 @@ fn a_reading_is_told_its_interval(rt: HostRuntime) {
     }
 }
 
-// The expected numbers are those of exact fractions.
+// The expected numbers are those of exact fractions, here and in the three tests that follow.
 #[test]
-fn the_extremes_of_the_time(rt: HostRuntime) {
-    let cases: [(u64, u64, u64, i128, i128); 6] = [
+fn the_error_is_taken_off_and_added(rt: HostRuntime) {
+    let cases: [(u64, u64, u64, i128, i128); 3] = [
         (
             1_700_000_000,
             1 << 63,
@@ -90,6 +92,19 @@ fn the_extremes_of_the_time(rt: HostRuntime) {
         ),
         (0, 0, 1_000, -1_000, 1_000),
         (0, 0, 0, 0, 0),
+    ];
+    for (seconds, part, error, earliest, latest) in cases {
+        assert_eq!(rt;
+            page_time(&with_time(seconds, part, error), 0),
+            Ok((earliest, latest)),
+            "{seconds} s {part} +- {error} ns"
+        );
+    }
+}
+
+#[test]
+fn a_part_of_a_nanosecond_widens_the_interval(rt: HostRuntime) {
+    let cases: [(u64, u64, u64, i128, i128); 3] = [
         (
             4_000_000_000,
             MOST,
@@ -122,8 +137,8 @@ fn the_extremes_of_the_time(rt: HostRuntime) {
 }
 
 #[test]
-fn the_extremes_of_the_pace(rt: HostRuntime) {
-    let cases: [(u8, u64, u64, u64, i128, i128); 6] = [
+fn the_farthest_reading_is_told_its_interval(rt: HostRuntime) {
+    let cases: [(u8, u64, u64, u64, i128, i128); 3] = [
         (
             40,
             MOST,
@@ -140,6 +155,27 @@ fn the_extremes_of_the_pace(rt: HostRuntime) {
             1_701_048_576_499_998_999,
             1_701_048_576_500_001_000,
         ),
+        (
+            40,
+            0,
+            1 << 63,
+            1 << 61,
+            1_698_951_424_499_999_000,
+            1_701_048_576_500_001_000,
+        ),
+    ];
+    for (shift, period, rate, reading, earliest, latest) in cases {
+        assert_eq!(rt;
+            page_time(&with_pace(shift, period, rate), reading),
+            Ok((earliest, latest)),
+            "{reading} ticks of {period} +- {rate} at {shift}"
+        );
+    }
+}
+
+#[test]
+fn the_last_reading_of_a_least_period_is_told_its_interval(rt: HostRuntime) {
+    let cases: [(u8, u64, u64, u64, i128, i128); 3] = [
         (
             0,
             1,
@@ -163,14 +199,6 @@ fn the_extremes_of_the_pace(rt: HostRuntime) {
             MOST,
             1_700_000_000_499_999_000,
             1_700_000_000_500_001_001,
-        ),
-        (
-            40,
-            0,
-            1 << 63,
-            1 << 61,
-            1_698_951_424_499_999_000,
-            1_701_048_576_500_001_000,
         ),
     ];
     for (shift, period, rate, reading, earliest, latest) in cases {
@@ -282,77 +310,58 @@ fn failure(
 }
 
 #[test]
-fn a_read_is_tested_by_true_time(rt: HostRuntime) {
+fn a_read_is_held_within_the_rate_error_of_its_page(rt: HostRuntime) {
     let second = 1_073_741_824;
     let after = STARTED + 1_000_000_000;
+    for (message, truth, want) in [
+        ("held", after + 900, None),
+        ("as late as can be", after + 953, None),
+        ("as early as can be", after - 953, None),
+        ("late", after + 954, Some(PageWhy::Rate)),
+        ("early", after - 954, Some(PageWhy::Rate)),
+    ] {
+        let want = want.map(|why| PageFailed { read: 1, why });
+        assert!(rt;
+            failure(rt.alloc(), Some(STARTED), second, Some(truth)) == Ok(want),
+            "{message}"
+        );
+    }
+}
+
+#[test]
+fn a_page_is_held_within_its_own_error(rt: HostRuntime) {
+    for (message, started, truth, want) in [
+        ("late", STARTED + 1_000, STARTED + 1_000, None),
+        ("early", STARTED - 1_000, STARTED - 1_000, None),
+        (
+            "too late",
+            STARTED + 1_001,
+            STARTED + 1_001,
+            Some(PageWhy::Page),
+        ),
+        ("too early", STARTED - 1_001, STARTED, Some(PageWhy::Page)),
+        ("true time at 0", 0, 0, Some(PageWhy::Page)),
+    ] {
+        let want = want.map(|why| PageFailed { read: 1, why });
+        assert!(rt;
+            failure(rt.alloc(), Some(started), 0, Some(truth)) == Ok(want),
+            "{message}"
+        );
+    }
+}
+
+#[test]
+fn a_read_whose_true_time_is_untold_fails_unless_refused(rt: HostRuntime) {
     for (message, started, counter, truth, want) in [
-        ("held", Some(STARTED), second, Some(after + 900), None),
+        ("no start", None, 0, Some(STARTED), Some(PageWhy::Untold)),
+        ("no truth", Some(STARTED), 0, None, Some(PageWhy::Untold)),
         (
-            "as late as can be",
-            Some(STARTED),
-            second,
-            Some(after + 953),
-            None,
-        ),
-        (
-            "as early as can be",
-            Some(STARTED),
-            second,
-            Some(after - 953),
-            None,
-        ),
-        (
-            "late",
-            Some(STARTED),
-            second,
-            Some(after + 954),
-            Some(PageWhy::Rate),
-        ),
-        (
-            "early",
-            Some(STARTED),
-            second,
-            Some(after - 954),
-            Some(PageWhy::Rate),
-        ),
-        (
-            "page late",
-            Some(STARTED + 1_000),
-            0,
-            Some(STARTED + 1_000),
-            None,
-        ),
-        (
-            "page early",
-            Some(STARTED - 1_000),
-            0,
-            Some(STARTED - 1_000),
-            None,
-        ),
-        (
-            "page too late",
+            "no truth, and the page too late",
             Some(STARTED + 1_001),
             0,
             None,
             Some(PageWhy::Untold),
         ),
-        (
-            "page too late and told",
-            Some(STARTED + 1_001),
-            0,
-            Some(STARTED + 1_001),
-            Some(PageWhy::Page),
-        ),
-        (
-            "page too early",
-            Some(STARTED - 1_001),
-            0,
-            Some(STARTED),
-            Some(PageWhy::Page),
-        ),
-        ("no start", None, 0, Some(STARTED), Some(PageWhy::Untold)),
-        ("no truth", Some(STARTED), 0, None, Some(PageWhy::Untold)),
-        ("true time at 0", Some(0), 0, Some(0), Some(PageWhy::Page)),
         ("refused", None, MOST, None, None),
     ] {
         let want = want.map(|why| PageFailed { read: 1, why });
@@ -363,14 +372,16 @@ fn a_read_is_tested_by_true_time(rt: HostRuntime) {
     }
 }
 
-#[test]
-fn the_first_failure_is_named_and_refused_reads_are_counted(rt: HostRuntime) -> Result<(), Memory> {
+// Two pages, of which the second begins at the counter value 10, with a read too early for it.
+fn rows_of_two_pages() -> [PageRow; 6]
+    ensures { BeginsWithPage result }
+{
     let started = Some(STARTED);
     let later = Page {
         counter_value: 10,
         ..page()
     };
-    let rows = [
+    [
         PageRow::Page {
             page: page(),
             truth: started,
@@ -395,8 +406,12 @@ fn the_first_failure_is_named_and_refused_reads_are_counted(rt: HostRuntime) -> 
             counter: 10,
             truth: None,
         },
-    ];
-    let report = page_report(rt.alloc(), &rows)?;
+    ]
+}
+
+#[test]
+fn the_first_failure_is_named_and_refused_reads_are_counted(rt: HostRuntime) -> Result<(), Memory> {
+    let report = page_report(rt.alloc(), &rows_of_two_pages())?;
     let time = PageTold::Time {
         earliest: 1_700_000_000_499_999_000,
         latest: 1_700_000_000_500_001_000,
