@@ -11,7 +11,7 @@ use Rattle.interval_now.specs.declared.answers.Answer.TheVariants as answers
 use Rattle.interval_now.specs.Interval.{KeepsEnds}
 use Rattle.step_core.specs.declared.event.Event.{Event}
 use Rattle.step_core.specs.declared.event.Event.TheVariants as events
-use Rattle.step_core.specs.Ends.{EventKeepsEnds}
+use Rattle.step_core.specs.IntervalEnds.{EventKeepsEnds}
 use Rattle.step_core.specs.RunWhole.{run_of}
 use Rattle.bound_cli.specs.Civil.{HasDates}
 use Rattle.bound_cli.specs.Replay.{printed_of}

@@ -2,7 +2,7 @@
 ghost use Rattle.std.specs.Prelude.{◌≡◌, All, Ok, IfOk, OnOk};
 ghost use Rattle.std.specs.String.{string_bytes};
 ghost use Rattle.clock_gate.specs.declared.trace.Trace.{Trace};
-ghost use Rattle.step_core.specs.Ends.{EventKeepsEnds};
+ghost use Rattle.step_core.specs.IntervalEnds.{EventKeepsEnds};
 ghost use Rattle.step_core.specs.RunWhole.{run_of};
 ghost use Rattle.step_core.specs.SharedReady.{CanRun};
 ghost use Rattle.trace_reader.specs.Errors.{Gives};

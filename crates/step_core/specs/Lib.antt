@@ -1,5 +1,5 @@
 pub mod Room
-pub mod Ends
+pub mod IntervalEnds
 pub mod Schedule
 pub mod SharedWords
 pub mod SharedHost
