@@ -188,7 +188,9 @@ module _ (trace : Trace) (host : HostRun) (segment : SegmentRun) (past : List Ev
   time_tells time trail is told found few =
       let entry : IsEntry segment.base segment.history trail.position told.publication = told_stands segment.base segment.history trail.position past told stand found in
       subst (λ (publication : Publication). interval_of publication.rec (row_at trace.clock time.row).mono (row_at trace.clock time.row).real (marker_at trace trail.mark_at) ≡ Ok time.interval)
-      entry.is (is.whole (subst (λ (l : Layout). trail.inside < period_of l) (sym layout) few))
+      entry.is
+      (ap (λ (rec : RecordFields). interval_of rec (row_at trace.clock time.row).mono (row_at trace.clock time.row).real (marker_at trace trail.mark_at)) (sym (is.read.1.whole (subst (λ (l : Layout). trail.inside < period_of l) (sym layout) few)))
+      ∙ is.read.1.interval)
 
   answer_tells : (answer : Answer) (trail : Option Trail) → IsAnswer trace segment answer trail → AnswerTells trace past answer trail
   answer_tells (answers.Time time) None is = tt

@@ -113,7 +113,7 @@ interval_status rec mono real marker interval told =
 answer_status : (trace : Trace) (segment : SegmentRun) (client call : ℕ) (answer : Answer) (trail : Option Trail) → IsAnswer trace segment answer trail → HasStatus trace segment client call answer trail
 answer_status trace segment client call (answers.Time time) None is = tt
 answer_status trace segment client call (answers.Time time) (Some trail) is =
-    λ few. interval_status (published_at segment trail.position).rec (row_at trace.clock time.row).mono (row_at trace.clock time.row).real (marker_by trace trail.mark_at trace.page) time.interval (is.whole few)
+    (is.read.0, (is.read.1, interval_status is.read.0 (row_at trace.clock time.row).mono (row_at trace.clock time.row).real (marker_by trace trail.mark_at trace.page) time.interval is.read.1.interval))
 answer_status trace segment client call (answers.Busy tries first last) trail is = tt
 answer_status trace segment client call answers.NotInitialized trail is = tt
 answer_status trace segment client call (answers.PageBusy first last) trail is = tt

@@ -1,5 +1,5 @@
 -- Each try of a call that answered Busy failed.
-use Rattle.std.proofs.Common.{◌≡◌, ℕ, zero, suc, ◌+◌, List, [], ◌∷◌, ◌++◌, Option, Some, None, refl, ap, sym, ◌∙◌, subst, inl, inr, append-nil}
+use Rattle.std.proofs.Common.{◌≡◌, ℕ, zero, suc, ◌+◌, List, [], ◌∷◌, ◌++◌, Option, Some, None, refl, ap, sym, ◌∙◌, subst, inl, inr, append-nil, append_assoc}
 use Rattle.std.specs.Prelude.{slice_get, map}
 use Rattle.std.specs.List.{range_with_len}
 use Rattle.std.proofs.lemmas.Bool.{cases_eq}
@@ -21,7 +21,7 @@ use Rattle.step_core.specs.Shared.{Shared, shared_turn, shared_start}
 use Rattle.step_core.specs.SharedClient.{ClientState}
 use Rattle.step_core.specs.ShowsSegment.{IsSegment}
 use Rattle.step_core.specs.Shows.{Shows}
-use Rattle.step_core.specs.AnswerLaws.{EachAnswer, next_call, next_read, IsFailing, first_number, HasFailed, HasFailedAll}
+use Rattle.step_core.specs.AnswerLaws.{EachAnswer, next_call, next_read, IsFailing, first_number, HasFailed, HasFailedAll, HaveTriesFailed}
 use Rattle.step_core.proofs.DaemonQuiet.{AreQuiet, daemon_quiet}
 use Rattle.step_core.proofs.RunClients.{other_at, same_at}
 use Rattle.step_core.proofs.RunKeeps.{run_keeps}
@@ -38,29 +38,29 @@ turns_one_more : (trace : Trace) (run : Run) (before : List Party) (who : Party)
 turns_one_more trace run [] who = refl
 turns_one_more trace run (first ∷ before) who = turns_one_more trace (turn trace run first) before who
 
-failed_later : (trace : Trace) (run : Run) (client call left first last : ℕ) (who : Party) → HasFailed trace run client call left first last → HasFailed trace (turn trace run who) client call left first last
-failed_later trace run client call left first last who failed =
+failed_later : (trace : Trace) (turns : List Party) (who : Party) (client call left first last : ℕ) → HasFailed trace turns client call left first last → HasFailed trace (turns ++ who ∷ []) client call left first last
+failed_later trace turns who client call left first last failed =
     record {
       before = failed.before;
       after = failed.after ++ who ∷ [];
+      made = ap (λ (all : List Party). all ++ who ∷ []) failed.made ∙ append_assoc failed.before (Client client ∷ failed.after) (who ∷ []);
       state = failed.state;
       stands = failed.stands;
       fails = failed.fails;
-      leads = turns_one_more trace (turn trace (turns_by trace (start trace) failed.before) (Client client)) failed.after who ∙ ap (λ (r : Run). turn trace r who) failed.leads;
     }
 
 -- ---- a run
 
-abbrev AllOfClient : Trace → Run → (client : ℕ) → Option ClientRun → Type 0
-AllOfClient trace run client None = Unit {0}
-AllOfClient trace run client (Some state) = AllInHand (HasFailed trace run client) state.begun state.call
+abbrev AllOfClient : Trace → List Party → (client : ℕ) → Option ClientRun → Type 0
+AllOfClient trace turns client None = Unit {0}
+AllOfClient trace turns client (Some state) = AllInHand (HasFailed trace turns client) state.begun state.call
 
 -- the tries of every call in hand that are not left have failed, and all of every call that answered Busy
 record IsFailedRun (trace : Trace) (run : Run) : Type 0 where
   turns : List Party
   reached : turns_by trace (start trace) turns ≡ run
-  calls : (client : ℕ) → AllOfClient trace run client (client_at run.clients client)
-  answers : EachAnswer (HasFailedAll trace run) run.events
+  calls : (client : ℕ) → AllOfClient trace turns client (client_at run.clients client)
+  answers : EachAnswer (HasFailedAll trace turns) run.events
 
 module _ (Old New : (left first last : ℕ) → Type 0) (each : (left first last : ℕ) → Old left first last → New left first last) where
   once_later : (left : ℕ) → Once (Old left) → Once (New left)
@@ -71,55 +71,59 @@ module _ (Old New : (left first last : ℕ) → Type 0) (each : (left first last
   stage_later (Clocking read) tries all = tt
   stage_later (Paging clocked reading mark_at) tries all = tt
 
--- a turn leads from a run to a new one
-module _ (trace : Trace) (run : Run) (who : Party) (new : Run) (leads : turn trace run who ≡ new) where
-  failed_to : (client call left first last : ℕ) → HasFailed trace run client call left first last → HasFailed trace new client call left first last
-  failed_to client call left first last failed = subst (λ (r : Run). HasFailed trace r client call left first last) leads (failed_later trace run client call left first last who failed)
+-- after one more turn
+module _ (trace : Trace) (turns : List Party) (who : Party) where
+  abbrev more : List Party
+  more = turns ++ who ∷ []
 
-  call_later : (client begun : ℕ) (call : Option CallRun) → AllInHand (HasFailed trace run client) begun call → AllInHand (HasFailed trace new client) begun call
+  call_later : (client begun : ℕ) (call : Option CallRun) → AllInHand (HasFailed trace turns client) begun call → AllInHand (HasFailed trace more client) begun call
   call_later client begun None all = tt
   call_later client begun (Some call) all =
-      stage_later (HasFailed trace run client begun) (HasFailed trace new client begun) (failed_to client begun) call.stage call.tries all
+      stage_later (HasFailed trace turns client begun) (HasFailed trace more client begun) (failed_later trace turns who client begun) call.stage call.tries all
 
-  client_later : (client : ℕ) (state : Option ClientRun) → AllOfClient trace run client state → AllOfClient trace new client state
+  client_later : (client : ℕ) (state : Option ClientRun) → AllOfClient trace turns client state → AllOfClient trace more client state
   client_later client None all = tt
   client_later client (Some state) all = call_later client state.begun state.call all
 
-  answer_later : (client call : ℕ) (answer : Answer) (trail : Option Trail) → HasFailedAll trace run client call answer trail → HasFailedAll trace new client call answer trail
+  answer_later : (client call : ℕ) (answer : Answer) (trail : Option Trail) → HasFailedAll trace turns client call answer trail → HasFailedAll trace more client call answer trail
   answer_later client call (answers.Busy tries first last) trail all =
-      (λ left some most. once_later (HasFailed trace run client call) (HasFailed trace new client call) (failed_to client call) left (all.0 left some most), failed_to client call 1 first last all.1)
+      (λ left some most. once_later (HasFailed trace turns client call) (HasFailed trace more client call) (failed_later trace turns who client call) left (all.0 left some most),
+       failed_later trace turns who client call 1 first last all.1)
   answer_later client call (answers.Time time) trail all = tt
   answer_later client call answers.NotInitialized trail all = tt
   answer_later client call (answers.PageBusy first last) trail all = tt
   answer_later client call (answers.Causality causality) trail all = tt
 
-  answers_later : (told : List Event) → EachAnswer (HasFailedAll trace run) told → EachAnswer (HasFailedAll trace new) told
-  answers_later told all = each_then (HasFailedAll trace run) (HasFailedAll trace new) answer_later told all
+  answers_later : (told : List Event) → EachAnswer (HasFailedAll trace turns) told → EachAnswer (HasFailedAll trace more) told
+  answers_later told all = each_then (HasFailedAll trace turns) (HasFailedAll trace more) answer_later told all
 
+-- a turn leads from a run to a new one
+module _ (trace : Trace) (run : Run) (who : Party) (new : Run) (leads : turn trace run who ≡ new) where
   reached_later : (turns : List Party) → turns_by trace (start trace) turns ≡ run → turns_by trace (start trace) (turns ++ who ∷ []) ≡ new
   reached_later turns reached = turns_one_more trace (start trace) turns who ∙ ap (λ (r : Run). turn trace r who) reached ∙ leads
 
   -- a turn that leaves the clients, and tells of no answer
   still_failed : (told : List Event) → new.clients ≡ run.clients → new.events ≡ run.events ++ told → AreQuiet told → IsFailedRun trace run → IsFailedRun trace new
   still_failed told clients events quiet is =
+      let now : List Party = more trace is.turns who in
       record {
-        turns = is.turns ++ who ∷ [];
+        turns = now;
         reached = reached_later is.turns is.reached;
-        calls = λ client. subst (λ (c : List ClientRun). AllOfClient trace new client (client_at c client)) (sym clients) (client_later client (client_at run.clients client) (is.calls client));
-        answers = subst (EachAnswer (HasFailedAll trace new)) (sym events)
-            (each_more (HasFailedAll trace new) run.events told (answers_later run.events is.answers) (quiet_each (HasFailedAll trace new) told quiet));
+        calls = λ client. subst (λ (c : List ClientRun). AllOfClient trace now client (client_at c client)) (sym clients) (client_later trace is.turns who client (client_at run.clients client) (is.calls client));
+        answers = subst (EachAnswer (HasFailedAll trace now)) (sym events)
+            (each_more (HasFailedAll trace now) run.events told (answers_later trace is.turns who run.events is.answers) (quiet_each (HasFailedAll trace now) told quiet));
       }
 
-told_all : (trace : Trace) (new : Run) (client call : ℕ) (answer : Answer) (trail : Option Trail) → AllOf (HasFailed trace new client call) answer → HasFailedAll trace new client call answer trail
-told_all trace new client call (answers.Busy tries first last) trail all = all
-told_all trace new client call (answers.Time time) trail all = tt
-told_all trace new client call answers.NotInitialized trail all = tt
-told_all trace new client call (answers.PageBusy first last) trail all = tt
-told_all trace new client call (answers.Causality causality) trail all = tt
+told_all : (trace : Trace) (turns : List Party) (client call : ℕ) (answer : Answer) (trail : Option Trail) → AllOf (HasFailed trace turns client call) answer → HasFailedAll trace turns client call answer trail
+told_all trace turns client call (answers.Busy tries first last) trail all = all
+told_all trace turns client call (answers.Time time) trail all = tt
+told_all trace turns client call answers.NotInitialized trail all = tt
+told_all trace turns client call (answers.PageBusy first last) trail all = tt
+told_all trace turns client call (answers.Causality causality) trail all = tt
 
-answered_all : (trace : Trace) (new : Run) (client begun : ℕ) (answered : Option Answered) → AllAnswered (HasFailed trace new client) begun answered → EachAnswer (HasFailedAll trace new) (answer_events client begun answered)
-answered_all trace new client begun None all = tt
-answered_all trace new client begun (Some answered) all = (told_all trace new client begun answered.answer answered.trail all, tt)
+answered_all : (trace : Trace) (turns : List Party) (client begun : ℕ) (answered : Option Answered) → AllAnswered (HasFailed trace turns client) begun answered → EachAnswer (HasFailedAll trace turns) (answer_events client begun answered)
+answered_all trace turns client begun None all = tt
+answered_all trace turns client begun (Some answered) all = (told_all trace turns client begun answered.answer answered.trail all, tt)
 
 -- a turn of the client at this place, for which a load that fails a try is sharp
 module _ (trace : Trace) (run : Run) (place : ℕ) (old : ClientRun) (at : slice_get run.clients place ≡ Some old) (sharp : IsSharp run.segment (next_read old.left old.call)) (is : IsFailedRun trace run) where
@@ -129,11 +133,14 @@ module _ (trace : Trace) (run : Run) (place : ℕ) (old : ClientRun) (at : slice
   abbrev new : Run
   new = with_client run (suc place) next
 
+  abbrev now : List Party
+  now = more trace is.turns (Client (suc place))
+
   turned : turn trace run (Client (suc place)) ≡ new
   turned = ap (client_turn_in trace run (suc place)) at
 
   -- it fails a try of its own call
-  own_failed : (reading : SegmentReading) → next_read old.left old.call ≡ Some reading → Owns (HasFailed trace new (suc place) (next_call old.begun old.call)) run.segment reading.left reading.try
+  own_failed : (reading : SegmentReading) → next_read old.left old.call ≡ Some reading → Owns (HasFailed trace now (suc place) (next_call old.begun old.call)) run.segment reading.left reading.try
   own_failed reading read fails =
       let sharply = sharp reading read fails in
       let stood : SegmentRun = (turns_by trace (start trace) is.turns).segment in
@@ -153,36 +160,36 @@ module _ (trace : Trace) (run : Run) (place : ℕ) (old : ClientRun) (at : slice
             loaded_first = ap (λ (s : SegmentRun). first_number s reading.try) same;
             loaded_last = ap number_shown same;
           };
-          leads = ap (λ (r : Run). turn trace r (Client (suc place))) is.reached ∙ turned;
+          made = refl;
         },
       )
 
-  old_all : AllInHand (HasFailed trace new (suc place)) old.begun old.call
-  old_all = call_later trace run (Client (suc place)) new turned (suc place) old.begun old.call (subst (AllOfClient trace run (suc place)) at (is.calls (suc place)))
+  old_all : AllInHand (HasFailed trace now (suc place)) old.begun old.call
+  old_all = call_later trace is.turns (Client (suc place)) (suc place) old.begun old.call (subst (AllOfClient trace is.turns (suc place)) at (is.calls (suc place)))
 
-  own_after : IsClientAfter (HasFailed trace new (suc place)) next
-  own_after = turn_all (HasFailed trace new (suc place)) trace run.host run.segment old old.call refl old_all own_failed
+  own_after : IsClientAfter (HasFailed trace now (suc place)) next
+  own_after = turn_all (HasFailed trace now (suc place)) trace run.host run.segment old old.call refl old_all own_failed
 
-  calls_after : (client : ℕ) → AllOfClient trace new client (client_at new.clients client)
+  calls_after : (client : ℕ) → AllOfClient trace now client (client_at new.clients client)
   calls_after client =
       elim (cases_eq (suc place) client) [
         | inl same ↦
-            subst (λ (n : ℕ). AllOfClient trace new n (client_at new.clients n)) same
-            (subst (AllOfClient trace new (suc place)) (sym (same_at run.clients place old next.client at)) own_after.in_hand)
+            subst (λ (n : ℕ). AllOfClient trace now n (client_at new.clients n)) same
+            (subst (AllOfClient trace now (suc place)) (sym (same_at run.clients place old next.client at)) own_after.in_hand)
         | inr differs ↦
-            subst (AllOfClient trace new client) (sym (other_at run.clients client place next.client differs))
-            (client_later trace run (Client (suc place)) new turned client (client_at run.clients client) (is.calls client))
+            subst (AllOfClient trace now client) (sym (other_at run.clients client place next.client differs))
+            (client_later trace is.turns (Client (suc place)) client (client_at run.clients client) (is.calls client))
       ]
 
   client_failed : IsFailedRun trace new
   client_failed =
       record {
-        turns = is.turns ++ Client (suc place) ∷ [];
+        turns = now;
         reached = reached_later trace run (Client (suc place)) new turned is.turns is.reached;
         calls = calls_after;
-        answers = each_more (HasFailedAll trace new) run.events (answer_events (suc place) next.client.begun next.answered)
-            (answers_later trace run (Client (suc place)) new turned run.events is.answers)
-            (answered_all trace new (suc place) next.client.begun next.answered own_after.answered);
+        answers = each_more (HasFailedAll trace now) run.events (answer_events (suc place) next.client.begun next.answered)
+            (answers_later trace is.turns (Client (suc place)) run.events is.answers)
+            (answered_all trace now (suc place) next.client.begun next.answered own_after.answered);
       }
 
 client_by : (trace : Trace) (run : Run) (place : ℕ) (old : Option ClientRun) (client : Option ClientState) → slice_get run.clients place ≡ old → IsSegment run.segment → ShowsClientOf trace run.host run.segment (suc place) old client
@@ -203,14 +210,14 @@ turn_failed trace run w (Client (suc place)) shows is =
 -- ---- the whole run
 
 -- at the start no call is in hand
-none_at : (trace : Trace) (run : Run) (client number clients place : ℕ) → AllOfClient trace run client (slice_get (map (client_start trace.calls) (range_with_len number clients)) place)
-none_at trace run client number zero place = tt
-none_at trace run client number (suc clients) zero = tt
-none_at trace run client number (suc clients) (suc place) = none_at trace run client (number + 1) clients place
+none_at : (trace : Trace) (turns : List Party) (client number clients place : ℕ) → AllOfClient trace turns client (slice_get (map (client_start trace.calls) (range_with_len number clients)) place)
+none_at trace turns client number zero place = tt
+none_at trace turns client number (suc clients) zero = tt
+none_at trace turns client number (suc clients) (suc place) = none_at trace turns client (number + 1) clients place
 
-no_calls : (trace : Trace) (client : ℕ) → AllOfClient trace (start trace) client (client_at (start trace).clients client)
+no_calls : (trace : Trace) (client : ℕ) → AllOfClient trace [] client (client_at (start trace).clients client)
 no_calls trace zero = tt
-no_calls trace (suc place) = none_at trace (start trace) (suc place) 1 trace.clients place
+no_calls trace (suc place) = none_at trace [] (suc place) 1 trace.clients place
 
 -- a run that words show
 abbrev IsShownRun : Trace → Run → Type 0
@@ -220,7 +227,8 @@ shown_keeps : (trace : Trace) → IsLawfulTrace trace → (run : Run) (who : Par
 shown_keeps trace lawful run who is = (shared_turn is.0 who, (turn_shows trace lawful run is.0 who is.1.0, turn_failed trace run is.0 who is.1.0 is.1.1))
 
 -- each try of a call that answered Busy failed
-pub busy_tries_failed : (trace : Trace) → IsGiven trace → EachAnswer (HasFailedAll trace (run_of trace)) (run_of trace).events
+pub busy_tries_failed : (trace : Trace) → IsGiven trace → HaveTriesFailed trace (run_of trace)
 busy_tries_failed trace given =
     let begins : IsShownRun trace (start trace) = (shared_start trace, (start_shows trace given, record { turns = []; reached = refl; calls = no_calls trace; answers = tt })) in
-    (run_keeps trace (IsShownRun trace) (shown_keeps trace given.can.lawful) (start trace) begins).1.1.answers
+    let is = (run_keeps trace (IsShownRun trace) (shown_keeps trace given.can.lawful) (start trace) begins).1.1 in
+    record { turns = is.turns; lead = is.reached; failed = is.answers }

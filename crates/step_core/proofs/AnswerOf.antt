@@ -181,9 +181,7 @@ module _ (trace : Trace) (host : HostRun) (segment : SegmentRun) where
         row = is.row;
         sequence = same_sequence;
         generation = is.read.generation;
-        whole = λ few.
-            ap (λ (rec : RecordFields). interval_of rec mono real (marker_by trace mark_at trace.page)) (sym (is.read.whole few))
-            ∙ ap (interval_of clocked.read.rec mono real) (sym same_marker) ∙ comes;
+        read = (clocked.read.rec, record { interval = ap (interval_of clocked.read.rec mono real) (sym same_marker) ∙ comes; whole = is.read.whole });
       }
   timed_of clocked marker sequence mark_at (Err causality) comes is same_marker same_sequence = tt
 

@@ -100,10 +100,15 @@ module _ (trace : Trace) (old new : SegmentRun) (is : IsSegment old) (later : Is
         row = of_old.row;
         sequence = of_old.sequence;
         generation = of_old.generation ∙ sym (number_later trail.position);
-        whole = λ few.
-            ap (λ (publication : Publication). interval_of publication.rec (row_at trace.clock time.row).mono (row_at trace.clock time.row).real (marker_by trace trail.mark_at trace.page))
-            (published_later old new trail.position is.known later of_old.known (omega (arith, before)))
-            ∙ of_old.whole (subst (λ (layout : Layout). trail.inside < period_of layout) later.layout few);
+        read = (
+          of_old.read.0,
+          record {
+            interval = of_old.read.1.interval;
+            whole = λ few.
+                of_old.read.1.whole (subst (λ (layout : Layout). trail.inside < period_of layout) later.layout few)
+                ∙ sym (ap (λ (publication : Publication). publication.rec) (published_later old new trail.position is.known later of_old.known (omega (arith, before))));
+          },
+        );
       }
 
   answer_later : (answer : Answer) (trail : Option Trail) → IsAnswer trace old answer trail → IsAnswer trace new answer trail

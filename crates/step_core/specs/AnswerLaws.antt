@@ -1,5 +1,5 @@
 -- What holds of each answer of every abstract run: the status of an interval, and the tries of an answer Busy.
-use Rattle.std.specs.Prelude.{◌≡◌, ◌≢◌, ℕ, ◌+◌, ◌<◌, ◌≤◌, ◌≤ℤ◌, pos, true, false, List, [], ◌∷◌, length, Option, Some, None}
+use Rattle.std.specs.Prelude.{◌≡◌, ◌≢◌, ℕ, ◌+◌, ◌<◌, ◌≤◌, ◌≤ℤ◌, pos, true, false, List, [], ◌∷◌, ◌++◌, length, Option, Some, None}
 use Rattle.clock_gate.specs.declared.clock_status.ClockStatus.{ClockStatus}
 use Rattle.clock_gate.specs.declared.clock_status.ClockStatus.TheVariants.{Synchronized, FreeRunning, Disrupted}
 use Rattle.clock_gate.specs.declared.trace.Party.{Party}
@@ -12,11 +12,11 @@ use Rattle.interval_now.specs.declared.answers.Answer.TheVariants as answers
 use Rattle.step_core.specs.declared.event.Event.{Event}
 use Rattle.step_core.specs.declared.event.Event.TheVariants.{Opened, Moved, Published, Skipped, Stopped, Answered}
 use Rattle.step_core.specs.declared.event.Trail.{Trail}
-use Rattle.step_core.specs.Run.{Run, start, turn, turns_by, client_at}
+use Rattle.step_core.specs.Run.{Run, start, turns_by, client_at}
 use Rattle.step_core.specs.RunSegment.{SegmentRun, header_shown, number_shown, number_at, published_at}
 use Rattle.step_core.specs.RunDaemon.{row_at}
 use Rattle.step_core.specs.RunClient.{SegmentTry, SegmentReading, segment_reading, CallStage, Reading, Clocking, Paging, CallRun, ClientRun}
-use Rattle.step_core.specs.RunLaws.{marker_by}
+use Rattle.step_core.specs.RunLaws.{marker_by, HasRead}
 
 -- this holds of each answer among these events: of its client, the number of its call, the answer and its trail
 abbrev pub EachAnswer : ((client call : ℕ) → Answer → Option Trail → Type 0) → List Event → Type 0
@@ -39,12 +39,11 @@ pub record IsStatusBy (rec : RecordFields) (mono : ℕ) (marker : Option ℕ) (s
   -- from void-after on
   pub void : rec.void_after ≤ℤ pos mono → (status ≢ Synchronized) × (status ≢ FreeRunning)
 
--- with fewer publications inside its read than a period, an interval has the status of the record at its position
+-- an interval has the status of the record that the call read
 abbrev pub HasStatus : Trace → SegmentRun → (client call : ℕ) → Answer → Option Trail → Type 0
 HasStatus trace segment client call (answers.Time time) None = Unit {0}
 HasStatus trace segment client call (answers.Time time) (Some trail) =
-    trail.inside < period_of segment.layout
-    → IsStatusBy (published_at segment trail.position).rec (row_at trace.clock time.row).mono (marker_by trace trail.mark_at trace.page) time.interval.status
+    (rec : RecordFields) × (HasRead trace segment time trail rec × IsStatusBy rec (row_at trace.clock time.row).mono (marker_by trace trail.mark_at trace.page) time.interval.status)
 HasStatus trace segment client call (answers.Busy tries first last) trail = Unit {0}
 HasStatus trace segment client call answers.NotInitialized trail = Unit {0}
 HasStatus trace segment client call (answers.PageBusy first last) trail = Unit {0}
@@ -92,25 +91,31 @@ pub record FailsNext (segment : SegmentRun) (client : ClientRun) (call left firs
   pub loaded_first : first_number segment reading.try ≡ first
   pub loaded_last : number_shown segment ≡ last
 
--- such a turn was made on the way to this run: after these turns, and before those
-pub record HasFailed (trace : Trace) (run : Run) (client call left first last : ℕ) : Type 0 where
+-- such a turn of this client is among these: it was made after those before it
+pub record HasFailed (trace : Trace) (turns : List Party) (client call left first last : ℕ) : Type 0 where
   pub before : List Party
   pub after : List Party
+  pub made : turns ≡ before ++ Client client ∷ after
   pub state : ClientRun
   pub stands : client_at (turns_by trace (start trace) before).clients client ≡ Some state
   pub fails : FailsNext (turns_by trace (start trace) before).segment state call left first last
-  pub leads : turns_by trace (turn trace (turns_by trace (start trace) before) (Client client)) after ≡ run
 
--- such a turn was made, by some numbers
-abbrev pub HasFailedOnce : Trace → Run → (client call left : ℕ) → Type 0
-HasFailedOnce trace run client call left = (first : ℕ) × ((last : ℕ) × HasFailed trace run client call left first last)
+-- by some numbers
+abbrev pub HasFailedOnce : Trace → List Party → (client call left : ℕ) → Type 0
+HasFailedOnce trace turns client call left = (first : ℕ) × ((last : ℕ) × HasFailed trace turns client call left first last)
 
 -- an answer Busy tells how many tries its call had: each of them failed, from the one with all left down to the last; and the two
 -- numbers of the last
-abbrev pub HasFailedAll : Trace → Run → (client call : ℕ) → Answer → Option Trail → Type 0
-HasFailedAll trace run client call (answers.Busy tries first last) trail =
-    ((left : ℕ) → 0 < left → left ≤ tries → HasFailedOnce trace run client call left) × HasFailed trace run client call 1 first last
-HasFailedAll trace run client call (answers.Time time) trail = Unit {0}
-HasFailedAll trace run client call answers.NotInitialized trail = Unit {0}
-HasFailedAll trace run client call (answers.PageBusy first last) trail = Unit {0}
-HasFailedAll trace run client call (answers.Causality causality) trail = Unit {0}
+abbrev pub HasFailedAll : Trace → List Party → (client call : ℕ) → Answer → Option Trail → Type 0
+HasFailedAll trace turns client call (answers.Busy tries first last) trail =
+    ((left : ℕ) → 0 < left → left ≤ tries → HasFailedOnce trace turns client call left) × HasFailed trace turns client call 1 first last
+HasFailedAll trace turns client call (answers.Time time) trail = Unit {0}
+HasFailedAll trace turns client call answers.NotInitialized trail = Unit {0}
+HasFailedAll trace turns client call (answers.PageBusy first last) trail = Unit {0}
+HasFailedAll trace turns client call (answers.Causality causality) trail = Unit {0}
+
+-- the turns that led to this run: among them are those that failed each try of every call that answered Busy
+pub record HaveTriesFailed (trace : Trace) (run : Run) : Type 0 where
+  pub turns : List Party
+  pub lead : turns_by trace (start trace) turns ≡ run
+  pub failed : EachAnswer (HasFailedAll trace turns) run.events

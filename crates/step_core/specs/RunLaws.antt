@@ -2,6 +2,7 @@
 use Rattle.std.specs.Prelude.{◌≡◌, ℕ, ◌+◌, ◌<◌, ◌≤◌, false, ◌==◌, if◌then◌else◌, List, [], ◌∷◌, Option, Some, None, Ok}
 use Rattle.clock_gate.specs.declared.trace.Trace.{Trace}
 use Rattle.generation_word.specs.Layout.{period_of}
+use Rattle.segment_layout.specs.Record.{RecordFields}
 use Rattle.vmclock_page.specs.Host.{count_of}
 use Rattle.interval_now.specs.declared.answers.Timed.{Timed}
 use Rattle.interval_now.specs.declared.answers.Answer.{Answer}
@@ -52,8 +53,14 @@ abbrev pub sequence_by : Trace → (done : ℕ) → Option (List ℕ) → ℕ
 sequence_by trace done None = 0
 sequence_by trace done (Some page) = sequence_of (count_of trace.page) (record { page = pages_at trace.host done; is_writing = false })
 
+-- the record that a call read gave it its interval, at its clock row and with the page's marker; with fewer publications inside its
+-- read than a period it is the one at its position
+pub record HasRead (trace : Trace) (segment : SegmentRun) (time : Timed) (trail : Trail) (rec : RecordFields) : Type 0 where
+  pub interval : interval_of rec (row_at trace.clock time.row).mono (row_at trace.clock time.row).real (marker_by trace trail.mark_at trace.page) ≡ Ok time.interval
+  pub whole : trail.inside < period_of segment.layout → rec ≡ (published_at segment trail.position).rec
+
 pub record IsTimeOf (trace : Trace) (segment : SegmentRun) (time : Timed) (trail : Trail) : Type 0 where
-  -- a record stands in the history at that position, and so many more had ended at the read's last load
+  -- a record stands in the history at that position, and no fewer publications than that and those inside the read have ended
   pub known : segment.base < trail.position
   pub before : trail.position + trail.inside ≤ segment.position
   -- the clock is loaded before the page's marker
@@ -61,9 +68,7 @@ pub record IsTimeOf (trace : Trace) (segment : SegmentRun) (time : Timed) (trail
   pub row : time.row ≡ clocks_at trace.host trail.clock_at
   pub sequence : time.sequence ≡ sequence_by trace trail.mark_at trace.page
   pub generation : time.generation ≡ number_at segment trail.position
-  -- with fewer of them than a period the interval is that of this record
-  pub whole : trail.inside < period_of segment.layout
-      → interval_of (published_at segment trail.position).rec (row_at trace.clock time.row).mono (row_at trace.clock time.row).real (marker_by trace trail.mark_at trace.page) ≡ Ok time.interval
+  pub read : (rec : RecordFields) × HasRead trace segment time trail rec
 
 -- an answer has a trail where it has an interval, and nowhere else
 abbrev pub IsAnswer : Trace → SegmentRun → Answer → Option Trail → Type 0
