@@ -1,5 +1,5 @@
 -- What the top call answers and writes, by its command and the bytes of its source.
-use Rattle.std.specs.Prelude.{◌≡◌, ℕ, ◌<◌, ◌≤◌, List, [], ◌++◌, length, take, if◌then◌else◌, Option, Some, false, Result, Ok, Err, IsOk, IfOk, ⊤}
+use Rattle.std.specs.Prelude.{◌≡◌, ℕ, ◌<◌, ◌≤◌, List, [], ◌++◌, length, take, if◌then◌else◌, Option, Some, true, false, Result, Ok, Err, IsOk, IfOk, ⊤}
 use Rattle.clock_gate.specs.declared.limits.TheConstants.{INPUT_LIMIT}
 use Rattle.bound_cli.specs.declared.command.Command.{Command}
 use Rattle.bound_cli.specs.Command.{reads}
@@ -20,12 +20,13 @@ IsUnread (Err n) = ⊤
 abbrev pub IsAccepted : Command → List ℕ → Type 0
 IsAccepted command bytes = (length bytes ≤ INPUT_LIMIT) × IsOk (output_of command bytes)
 
--- which answers the bytes of a source allow. Read rests on the source's count of faults, Memory on nothing.
+-- which answers the bytes of a source allow. Read rests on the source's count of faults, and comes of a command that reads; Memory
+-- rests on nothing.
 abbrev pub Allows : Command → List ℕ → Status → Type 0
 Allows command bytes status.Ok = IsAccepted command bytes
 Allows command bytes (status.Usage n) = ⊥
 Allows command bytes (status.Trace line reason) = (length bytes ≤ INPUT_LIMIT) × (output_of command bytes ≡ Err (record { line = line; reason = reason }))
-Allows command bytes status.Read = ⊤
+Allows command bytes status.Read = reads command ≡ true
 Allows command bytes status.Write = IsAccepted command bytes
 Allows command bytes status.TooLong = INPUT_LIMIT < length bytes
 Allows command bytes status.Memory = ⊤

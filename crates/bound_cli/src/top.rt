@@ -30,10 +30,11 @@ fn read_input<S: Source>(
     ensures given { IfOk result (λ v. IfSome (input_of command (S.left source.old)) (λ all. v.items ≡ all)) }
     ensures to_end { IfOk result (λ v. reads command ≡ true → IfSome (S.left source.old) (λ _. S.left source.new ≡ Some [])) }
     ensures unread { reads command ≡ false → S.left source.new ≡ S.left source.old }
+    ensures untouched { reads command ≡ false → S.faults source.new ≡ S.faults source.old }
     ensures short { IfOk result (λ v. vec_len v ≤ INPUT_LIMIT) }
     ensures too_long { IsErrOf result ReadError.TooLong → (reads command ≡ true) × TookTooMuch (S.left source.old) (S.left source.new) }
     ensures later { S.faults source.old ≤ S.faults source.new }
-    ensures failed { IsErrOf result ReadError.Failed → Rose (S.faults source.old) (S.faults source.new) }
+    ensures failed { IsErrOf result ReadError.Failed → (reads command ≡ true) × Rose (S.faults source.old) (S.faults source.new) }
 {
     match command {
         Command::Replay(_) | Command::Decode(_) | Command::Pagetime | Command::Agree => {
@@ -56,9 +57,10 @@ pub fn serve<S: Source, K: Sink>(
     source: &mut S,
     sink: &mut K,
 ) -> Status
-    // The words: which one is refused, and that nothing is read then.
+    // The words: which one is refused, and that the source isn't asked then.
     ensures usage { (n : ℕ) → (result ≡ Status.Usage n) ↔ (command_of (map string_bytes words.now.items) ≡ Err n) }
     ensures unread { IsUnread (command_of (map string_bytes words.now.items)) → S.left source.new ≡ S.left source.old }
+    ensures untouched { IsUnread (command_of (map string_bytes words.now.items)) → S.faults source.new ≡ S.faults source.old }
 
     // The main theorem: what is answered, and what is written, by the bytes that the source had.
     ensures answer { IfOk (command_of (map string_bytes words.now.items)) (λ command.
@@ -73,8 +75,8 @@ pub fn serve<S: Source, K: Sink>(
 
     // What a replayed report is worth: each interval comes from one whole published record, if fewer publications than its layout's
     // period fall within its read, and from none older than its client had seen; called Synchronized or Free Running it contains true
-    // time where replies, drift and marks kept their promises; an unabsorbed mark makes it Disrupted; Busy means every try met an odd
-    // or changed generation. Each earliest and latest that it prints has exactly one date and time.
+    // time where replies, drift and marks kept their promises; an unabsorbed mark of the record read makes it Disrupted; Busy means
+    // every try met an odd or changed generation. Each earliest and latest that it prints has exactly one date and time.
     ensures served { (times : Times) (bytes : List ℕ) (trace : Trace) → result ≡ Status.Ok
         → command_of (map string_bytes words.now.items) ≡ Ok (Command.Replay times) → S.left source.old ≡ Some bytes → trace_in bytes ≡ Ok trace
         → IsServed trace }

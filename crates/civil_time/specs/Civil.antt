@@ -7,7 +7,7 @@ use Rattle.jiff.specs.Types.{DateTime}
 use Rattle.jiff.specs.Words.{epoch_day, time_nanos, IsBetween, datetime_text}
 use Rattle.civil_time.specs.declared.limits.TheConstants.{FIRST_INSTANT, LAST_INSTANT}
 
--- an instant of a year of four digits
+-- an instant of a year of four digits, up to the last that jiff has
 abbrev pub IsInstant : ℤ → Type 0
 IsInstant n = IsBetween FIRST_INSTANT LAST_INSTANT n
 
@@ -59,6 +59,6 @@ clock_text rest =
 unfoldable pub shown_text : ℤ → List ℕ
 shown_text n = date_text (int_div_euclid n day_nanos) ++ 84 ∷ clock_text (unsigned_abs (int_rem_euclid n day_nanos)) ++ 90 ∷ []
 
--- that, or nothing where the year hasn't four digits
+-- that, or nothing for a number that is no such instant
 unfoldable pub civil_text : ℤ → List ℕ
 civil_text n = if int_lt n FIRST_INSTANT then [] else if int_lt LAST_INSTANT n then [] else shown_text n

@@ -22,6 +22,7 @@ use Rattle.step_core.specs.RunSegment.{SegmentRun, published_at}
 use Rattle.step_core.specs.RunDaemon.{row_at, marked_by}
 use Rattle.step_core.specs.RunClient as run_client
 use Rattle.step_core.specs.RunClient.{SegmentAfter, Reads, IsWhole, Unpublished, AllFailed, segment_load, segment_reading, WholeRead, Clocked, CallStage, Reading, Clocking, Paging, Answered, CallAfter, Goes, Answers, CallRun, ClientRun, ClientTurn}
+use Rattle.segment_layout.specs.Record.{RecordFields}
 use Rattle.step_core.specs.RunLaws.{IsTimeOf, IsAnswer}
 use Rattle.step_core.proofs.AnswerOf.{IsReadOf, IsClockedOf, StandsIn, PageFits, FitsIn, LeavesOf, step_of}
 use Rattle.step_core.proofs.RunFactsClient.{CallFits, StageFits}

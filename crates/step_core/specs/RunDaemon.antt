@@ -51,8 +51,8 @@ pub data Work : Type 0 where
   Taking : (asked : Asked) → Work
   Writing : (storing : Storing) → Work
 
--- the daemon: its incarnation, or none while it is stopped; the poll in hand; how many polls were begun; the base number of the
--- last publication that ended, 0 where that is the image's record; and its events
+-- the daemon: its incarnation, or none while it is stopped; the poll in hand; how many polls were begun; and the base number of the
+-- last publication that ended, 0 where that is the image's record
 pub record DaemonRun : Type 0 where
   pub life : Option Life
   pub work : Work
