@@ -76,9 +76,22 @@ act_at_stop order taken update stop =
 
 -- after the tenth store, and not before, no further one is wanted
 all_stores : (order : Order) (taken : Taken) → NoEnd (stores taken.publication.rec order.layout order.generation)
-all_stores order taken =
-    (store_goes_on _ _, (store_goes_on _ _, (store_goes_on _ _, (store_goes_on _ _, (store_goes_on _ _,
-    (store_goes_on _ _, (store_goes_on _ _, (store_goes_on _ _, (store_goes_on _ _, (store_goes_on _ _, tt))))))))))
+all_stores order taken = (
+  store_goes_on _ _,
+  (
+    store_goes_on _ _,
+    (
+      store_goes_on _ _,
+      (
+        store_goes_on _ _,
+        (
+          store_goes_on _ _,
+          (store_goes_on _ _, (store_goes_on _ _, (store_goes_on _ _, (store_goes_on _ _, (store_goes_on _ _, tt))))),
+        ),
+      ),
+    ),
+  ),
+)
 
 pub act_after_ten : (order : Order) (taken : Taken) (update : Publishing) → IsUpdate order taken update → order.stop ≢ Some update.made → update.made ≡ MOST_STORES
     → act_of (storing_of order taken update.made) ≡ End

@@ -9,8 +9,7 @@ fits c = let told = c.self.told in let most = c.self.invariant.0 in omega arith
 
 pub returns : goal.returns
 returns c =
-    let steps = c.steps_in.ensures in
-    (
+    let steps = c.steps_in.ensures in (
       λ test.
           let past : c.steps_in.result ≤ c.self.inside.given = grind (arith, nat_tests) in
           ap opening_act (sym c.self.view_is)
