@@ -1,10 +1,9 @@
-use Rattle.std.proofs.Common.{◌≡◌, ℕ, List, Option, Some, subst, sym, ◌∙◌, ap}
+use Rattle.std.proofs.Common.{◌≡◌, ℕ, List, Option, subst, sym, ◌∙◌, ap}
 use Rattle.std.specs.Prelude.{map, Ok, IfSome}
 use Rattle.std.specs.String.{string_bytes}
-use Rattle.clock_gate.specs.declared.trace.Trace.{Trace}
 use Rattle.trace_reader.specs.Grammar.{trace_in}
 use Rattle.bound_cli.specs.declared.command.Command.{Command}
-use Rattle.bound_cli.specs.declared.command.Command.TheVariants.{Replay, Drill}
+use Rattle.bound_cli.specs.declared.command.Command.TheVariants.{Replay}
 use Rattle.bound_cli.specs.Command.{command_of}
 use Rattle.bound_cli.specs.Serve.{input_of}
 use Rattle.bound_cli.proofs.top.serve.Goals as goal
