@@ -189,22 +189,36 @@ fn the_first_refused_line_is_named_with_its_reason(rt: HostRuntime) -> Result<()
 const REPLY: &str =
     "06020000002100050000000000000000000000010000000000000000a9fea97ba9fea97b0000000000000000000000000001000000040000000000006500000000000000f7ffffff0000000000000000000000000000000000000000ec800000ea80000000000000";
 
-// What is run: `A` stands for the reply, `I` for an image of layout 2 with generation 65,534, `P` for a start page.
+// The report on these lines, where `A` stands for the reply, `I` for the image and `P` for the page.
+fn reported(alloc: Global, lines: &str) -> Result<(Status, Vec<u8>), Fail> {
+    let lines = lines.replace(alloc, "A", REPLY)?;
+    let lines = lines.replace(alloc, "I", IMAGE)?;
+    let lines = lines.replace(alloc, "P", PAGE)?;
+    let text = format!(in alloc; "clockbound-trace,1\n{lines}")?;
+    replayed(alloc, text.as_bytes())
+}
+
 #[test]
-fn a_run_is_reported_event_by_event(rt: HostRuntime) -> Result<(), Fail> {
-    let alloc = rt.alloc();
-    let cases = [
-        (
-            "an image's record vouches for nothing",
-            "image,I\nclock,2000000000,1700000001000000000\ncall,1\npoll,A\ncall,1\n",
-            "ans,1,1,time,65534,1,0,synchronized,1700000000999705858,1700000001000294142
+fn the_record_of_an_image_vouches_for_nothing(rt: HostRuntime) -> Result<(), Fail> {
+    let lines = "image,I\nclock,2000000000,1700000001000000000\ncall,1\npoll,A\ncall,1\n";
+    let report = "clockbound-report,1
+ans,1,1,time,65534,1,0,synchronized,1700000000999705858,1700000001000294142
 open,1,kept,65534
 pub,32768,1,2,1,0,1,synchronized,2000000000,244142,0,1
 ans,1,2,time,2,1,0,synchronized,1700000000999755858,1700000001000244142
 total,1,2,2,0,2,0,0
 premises,failed,1,1,image,0
-",
-        ),
+";
+    let (status, written) = reported(rt.alloc(), lines)?;
+    assert_eq!(rt; status, Status::Ok);
+    assert_eq!(rt; written.as_slice(), report.as_bytes());
+    Ok(())
+}
+
+#[test]
+fn a_run_with_a_disruption_is_reported_event_by_event(rt: HostRuntime) -> Result<(), Fail> {
+    let alloc = rt.alloc();
+    let cases = [
         (
             "a mark that comes too late",
             "page,P\nclock,1000000000,1700000000000000000,1700000000000000000\npoll,A\ndisrupt\nclock,2000000000,1700000001000000000,1700000001005000000\ncall,1\nmark,8\n",
@@ -227,12 +241,8 @@ premises,failed,1,1,drift,2
         ),
     ];
     for (name, lines, told) in cases {
-        let lines = lines.replace(alloc, "A", REPLY)?;
-        let lines = lines.replace(alloc, "I", IMAGE)?;
-        let lines = lines.replace(alloc, "P", PAGE)?;
-        let text = format!(in alloc; "clockbound-trace,1\n{lines}")?;
         let report = format!(in alloc; "clockbound-report,1\n{told}")?;
-        let (status, written) = replayed(alloc, text.as_bytes())?;
+        let (status, written) = reported(alloc, lines)?;
         assert_eq!(rt; status, Status::Ok, "{name}");
         assert_eq!(rt; written.as_slice(), report.as_bytes(), "{name}");
     }
