@@ -86,9 +86,10 @@ module _ (trace : Trace) (turns : List Party) (who : Party) where
   client_later client (Some state) all = call_later client state.begun state.call all
 
   answer_later : (client call : ℕ) (answer : Answer) (trail : Option Trail) → HasFailedAll trace turns client call answer trail → HasFailedAll trace more client call answer trail
-  answer_later client call (answers.Busy tries first last) trail all =
-      (λ left some most. once_later (HasFailed trace turns client call) (HasFailed trace more client call) (failed_later trace turns who client call) left (all.0 left some most),
-       failed_later trace turns who client call 1 first last all.1)
+  answer_later client call (answers.Busy tries first last) trail all = (
+    λ left some most. once_later (HasFailed trace turns client call) (HasFailed trace more client call) (failed_later trace turns who client call) left (all.0 left some most),
+    failed_later trace turns who client call 1 first last all.1,
+  )
   answer_later client call (answers.Time time) trail all = tt
   answer_later client call answers.NotInitialized trail all = tt
   answer_later client call (answers.PageBusy first last) trail all = tt
