@@ -14,7 +14,7 @@ use Rattle.interval_now.specs.Interval.{interval_of, half_width_of, client_statu
 use Rattle.step_core.specs.declared.event.Event.{Event}
 use Rattle.step_core.specs.declared.event.Event.TheVariants as events
 use Rattle.step_core.specs.declared.event.Trail.{Trail}
-use Rattle.step_core.specs.RunSegment.{SegmentRun, published_at}
+use Rattle.step_core.specs.RunSegment.{SegmentRun}
 use Rattle.step_core.specs.RunDaemon.{row_at}
 use Rattle.step_core.specs.RunWhole.{run_of}
 use Rattle.step_core.specs.RunLaws.{marker_by, IsAnswer, AreAnswers}

@@ -5,7 +5,6 @@ use Rattle.std.proofs.lemmas.Bool.{cases_eq}
 use Rattle.std.proofs.lemmas.Bool.Decides.{nat_tests}
 use Rattle.clock_gate.specs.declared.trace.Trace.{Trace}
 use Rattle.generation_word.specs.Layout.{period_of}
-use Rattle.segment_layout.specs.Record.{RecordFields}
 use Rattle.vmclock_page.specs.Host.{count_of}
 use Rattle.interval_now.specs.declared.answers.Interval.{Interval}
 use Rattle.interval_now.specs.declared.answers.Causality.{Causality}

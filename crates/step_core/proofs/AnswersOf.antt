@@ -17,7 +17,6 @@ use Rattle.interval_now.specs.Call.{Call}
 use Rattle.interval_now.specs.declared.answers.Answer.{Answer}
 use Rattle.interval_now.specs.declared.answers.Answer.TheVariants as answers
 use Rattle.interval_now.specs.declared.answers.Timed.{Timed}
-use Rattle.interval_now.specs.Interval.{interval_of}
 use Rattle.step_core.specs.declared.event.Event.{Event}
 use Rattle.step_core.specs.declared.event.Event.TheVariants as events
 use Rattle.step_core.specs.declared.event.Trail.{Trail}
@@ -26,11 +25,11 @@ use Rattle.step_core.specs.Run.{Run, turn, start, client_start, with_client, ans
 use Rattle.step_core.specs.RunHost.{HostRun, host_turn}
 use Rattle.step_core.specs.RunPage.{PageTry}
 use Rattle.step_core.specs.RunSegment.{SegmentRun, number_at}
-use Rattle.step_core.specs.RunDaemon.{DaemonTurn, daemon_turn, row_at}
+use Rattle.step_core.specs.RunDaemon.{DaemonTurn, daemon_turn}
 use Rattle.step_core.specs.RunClient as run_client
 use Rattle.step_core.specs.RunClient.{SegmentTry, segment_reading, WholeRead, CallStage, Reading, Clocking, Paging, Answered, CallAfter, Goes, Answers, CallRun, ClientRun}
 use Rattle.step_core.specs.RunWhole.{run_of}
-use Rattle.step_core.specs.RunLaws.{marker_by, IsTimeOf, IsAnswer, AreAnswers}
+use Rattle.step_core.specs.RunLaws.{IsTimeOf, IsAnswer, AreAnswers}
 use Rattle.step_core.specs.Shared.{Shared, shared_turn, shared_start}
 use Rattle.step_core.specs.SharedClient.{ClientState}
 use Rattle.step_core.specs.ShowsHost.{IsPageTryOf}

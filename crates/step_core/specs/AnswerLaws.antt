@@ -5,7 +5,6 @@ use Rattle.clock_gate.specs.declared.clock_status.ClockStatus.TheVariants.{Synch
 use Rattle.clock_gate.specs.declared.trace.Party.{Party}
 use Rattle.clock_gate.specs.declared.trace.Party.TheVariants.{Client}
 use Rattle.clock_gate.specs.declared.trace.Trace.{Trace}
-use Rattle.generation_word.specs.Layout.{period_of}
 use Rattle.segment_layout.specs.Record.{RecordFields}
 use Rattle.interval_now.specs.declared.answers.Answer.{Answer}
 use Rattle.interval_now.specs.declared.answers.Answer.TheVariants as answers
@@ -13,7 +12,7 @@ use Rattle.step_core.specs.declared.event.Event.{Event}
 use Rattle.step_core.specs.declared.event.Event.TheVariants.{Opened, Moved, Published, Skipped, Stopped, Answered}
 use Rattle.step_core.specs.declared.event.Trail.{Trail}
 use Rattle.step_core.specs.Run.{Run, start, turns_by, client_at}
-use Rattle.step_core.specs.RunSegment.{SegmentRun, header_shown, number_shown, number_at, published_at}
+use Rattle.step_core.specs.RunSegment.{SegmentRun, header_shown, number_shown, number_at}
 use Rattle.step_core.specs.RunDaemon.{row_at}
 use Rattle.step_core.specs.RunClient.{SegmentTry, SegmentReading, segment_reading, CallStage, Reading, Clocking, Paging, CallRun, ClientRun}
 use Rattle.step_core.specs.RunLaws.{marker_by, HasRead}

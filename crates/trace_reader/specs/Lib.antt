@@ -6,6 +6,7 @@ pub mod Grammar
 pub mod Kinds
 pub mod Laws
 pub mod Lines
+pub mod Names
 pub mod Parts
 pub mod Plain
 pub mod Records

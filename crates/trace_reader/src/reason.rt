@@ -29,6 +29,12 @@ pub enum Reason {
 }
 
 impl fmt::Display for Reason {
+    ghost use Rattle.std.specs.Prelude.{Some};
+    ghost use Rattle.trace_reader.specs.Names.{name_of};
+
+    ghost output = { λ reason. Some (name_of reason) };
+
+    #[tactic(auto, unfolding(crate::specs::Names::name_of))]
     fn fmt<W: fmt::Write>(&self, f: &mut fmt::Formatter<W>) -> fmt::Result {
         f.write_str(match self {
             Reason::Kind => "kind",

@@ -7,7 +7,7 @@ use std::alloc::{AllocError, AllocFailed};
 use std::fmt;
 use thiserror::Error;
 
-/// The first record of a text that is refused, and the first reason to refuse it.
+/// The first record of a text that is refused, and the first reason to refuse it. Shown as `line 3: clockback`.
 #[derive(Clone, Copy, Debug, PartialEq, Eq, Hash)]
 pub struct TraceFault {
     /// The number of the record, from 1. Empty lines aren't counted.
@@ -16,6 +16,12 @@ pub struct TraceFault {
 }
 
 impl fmt::Display for TraceFault {
+    ghost use Rattle.std.specs.Prelude.{Some};
+    ghost use Rattle.trace_reader.specs.Names.{fault_text};
+
+    ghost output = { λ fault. Some (fault_text fault) };
+
+    #[tactic(auto, unfolding(crate::specs::Names::fault_text))]
     fn fmt<W: fmt::Write>(&self, f: &mut fmt::Formatter<W>) -> fmt::Result {
         let (line, reason) = (self.line, self.reason);
         write!(f, "line {line}: {reason}")
