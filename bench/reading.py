@@ -36,11 +36,24 @@ def replies(size):
     return "clockbound-trace,1\nclock,1,1\n" + line * ((size - 80) // len(line))
 
 
+def clocks(size):
+    """Clock rows with true time."""
+    line = f"clock,{10**18},{17 * 10**17},{17 * 10**17}\n"
+    return "clockbound-trace,1\n" + line * ((size - 80) // len(line))
+
+
+def runs(size):
+    """Lines of a schedule."""
+    return "clockbound-trace,1\nclock,1,1\n" + "run,c1,000000001\n" * ((size - 80) // 17)
+
+
 def texts():
     for size in (2, 4, 8):
         yield f"rows, {size} MiB", lambda: rows(size * MIB) + "x\n"
     for size in (4, 8, 16):
         yield f"replies, {size} MiB", lambda: replies(size * MIB) + "x\n"
+    yield "clock rows with true time, 16 MiB", lambda: clocks(16 * MIB) + "x\n"
+    yield "lines of a schedule, 16 MiB", lambda: runs(16 * MIB) + "x\n"
     yield "one record of 16 Mi commas", lambda: "," * (16 * MIB - 1) + "\n"
 
 
@@ -79,7 +92,7 @@ def main():
             write(path, text)
             for program in programs:
                 found = [run(program, path) for _ in range(5)]
-                print(f"{min(t for t, _ in found):8.1f} ms {max(p for _, p in found):7.1f} MiB  {name:28} {program}")
+                print(f"{min(t for t, _ in found):8.1f} ms {max(p for _, p in found):7.1f} MiB  {name:34} {program}")
 
 
 main()
