@@ -6,13 +6,14 @@
 //! `MemSink` tell what they hold and fail where they are told to; `StdSource` and `StdSink` stand over std's
 //! reader and writer and tell nothing of their content. A `Trace` is what one run is given, an `Act` what a step machine
 //! wants to do next, and `specs/Tries.antt` says what a machine comes to that reads words under a number in so many
-//! tries (`seqlock_laws`). Stands on `generation_word`, for the layout of a trace.
+//! tries (`seqlock_laws`). A `Gate` is where a test can hold a worker. Stands on `generation_word`, for the layout of a trace.
 #![tactic(auto)]
 
 mod act;
 mod clock;
 mod clock_row;
 mod clock_status;
+mod gate;
 mod limits;
 mod list;
 mod mem_sink;
@@ -28,6 +29,7 @@ pub use act::Act;
 pub use clock::reading;
 pub use clock_row::{ClockRow, Reading};
 pub use clock_status::ClockStatus;
+pub use gate::{Gate, NoGate};
 pub use limits::{
     INPUT_LIMIT, LAST_MOMENT, MOST_CALLS, MOST_CLIENTS, MOST_DRIFT, MOST_HOST_ROWS, MOST_OF_A_LINE,
     MOST_PAGE_BYTES, MOST_POLLS, MOST_REPLY_BYTES, MOST_SCHEDULE_LINES, MOST_STORES, MOST_TRIES,
