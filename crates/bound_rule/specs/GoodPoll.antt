@@ -19,10 +19,8 @@ good_from mono None = Err BoundTooLarge
 
 -- a reply that isn't synchronised bounds nothing
 abbrev pub assess_by : Leap → ℕ → Option ℕ → Result Good Unfit
-assess_by Normal mono bound = good_from mono bound
-assess_by Insert mono bound = good_from mono bound
-assess_by Delete mono bound = good_from mono bound
 assess_by Unsynchronised mono bound = Err NotSynchronised
+assess_by other mono bound = good_from mono bound
 
 -- what a poll makes of a reply that was asked for at this moment
 abbrev pub assess_of : Tracking → ℕ → Result Good Unfit

@@ -27,9 +27,7 @@ half_width_of rec mono = rec.bound +ℤ pos (growth_of (elapsed_of rec.as_of mon
 
 abbrev pub is_disrupted : ClockStatus → Bool
 is_disrupted Disrupted = true
-is_disrupted Unknown = false
-is_disrupted Synchronized = false
-is_disrupted FreeRunning = false
+is_disrupted other = false
 
 -- a disruption mark isn't absorbed: the record is Disrupted, or there is a page whose marker isn't the record's
 abbrev pub is_unabsorbed : RecordFields → Option ℕ → Bool
@@ -40,8 +38,7 @@ is_unabsorbed rec (Some marker) = is_disrupted rec.status || (not rec.support ||
 abbrev pub status_by_age : ClockStatus → Bool → Bool → ClockStatus
 status_by_age Unknown is_void is_young = Unknown
 status_by_age Synchronized is_void is_young = if is_void then Unknown else if is_young then Synchronized else FreeRunning
-status_by_age FreeRunning is_void is_young = if is_void then Unknown else FreeRunning
-status_by_age Disrupted is_void is_young = if is_void then Unknown else FreeRunning
+status_by_age other is_void is_young = if is_void then Unknown else FreeRunning
 
 -- Disrupted before all else; from void-after on Unknown; Synchronized for 5 s from as-of on, and then FreeRunning
 abbrev pub client_status : RecordFields → ℕ → Option ℕ → ClockStatus

@@ -1,5 +1,5 @@
 -- What ten words hold is what is admitted.
-use Rattle.std.proofs.Common.{◌≡◌, ◌≢◌, ℕ, ◌/◌, ◌%◌, ◌^◌, ◌<◌, ◌≤◌, Bool, true, false, List, [], ◌∷◌, Option, Some, None, Ok, Err, inl, inr, refl, sym, ap, subst, ◌∙◌, arith}
+use Rattle.std.proofs.Common.{◌≡◌, ◌≢◌, ℕ, ◌/◌, ◌%◌, ◌^◌, ◌<◌, ◌≤◌, Bool, true, false, List, [], ◌∷◌, Option, Some, None, Result, Ok, Err, inl, inr, refl, sym, ap, subst, ◌∙◌, arith}
 use Rattle.std.specs.Prelude.{slice_index, ◌==◌, nat_lt, nat_le, if◌then◌else◌, ◌⊎◌}
 use Rattle.std.proofs.lemmas.Bool.Decides.{nat_tests}
 use Rattle.generation_word.specs.declared.layout.Layout.{Layout}
@@ -11,9 +11,10 @@ use Rattle.segment_layout.specs.declared.words.TheConstants.{MAGIC}
 use Rattle.segment_layout.specs.declared.start.Start.{Start}
 use Rattle.segment_layout.specs.declared.start.Start.TheVariants.{Fresh, Kept, Torn}
 use Rattle.segment_layout.specs.declared.image_fault.ImageFault.{ImageFault}
+use Rattle.segment_layout.specs.declared.image_fault.ImageFault.TheVariants as fault
 use Rattle.segment_layout.specs.Record.{RecordFields, KeepsBounds}
 use Rattle.segment_layout.specs.Words.{record_words, AreGoodWords, fields_of_words}
-use Rattle.segment_layout.specs.Image.{IsHeaderFor, HasGeneration, IsImageOf, Test, first_fault, has_magic, header_tests, data_tests, unless, start_at, image_of}
+use Rattle.segment_layout.specs.Image.{IsHeaderFor, HasGeneration, IsImageOf, Test, first_fault, has_magic, header_tests, data_tests, unless, start_at, start_by, start_of, image_of}
 use Rattle.segment_layout.proofs.Back.{are_good_words, good_as_of_seconds, good_as_of_nanos, good_void_after_seconds, good_void_after_nanos, good_bound, good_marker, good_drift_and_status, good_flag, record_words_good, fields_of_words-data_words}
 
 -- ---- the data words
@@ -140,3 +141,38 @@ image_of-fault layout words g fault magic other header not_zero not_odd first =
     let some_number : (g == 0) ≡ false = grind (arith, nat_tests) in
     let even : (g % 2 == 1) ≡ false = grind (arith, nat_tests) in
     rw (magic, some_header, passed.0, passed.1, some_number, even, first) refl
+
+-- ---- what is admitted is told by word 1
+
+start_at-start : (words : List ℕ) (generation : ℕ) (start : Start) → start_at words generation ≡ Ok start → start_by words generation ≡ start
+start_at-start words generation start is = by_zero (generation == 0) (generation % 2 == 1) is
+  where
+    by_zero : (none odd : Bool)
+        → (if none then Ok Fresh else if odd then Ok (Torn generation) else unless (first_fault (data_tests words)) (Ok (Kept generation (fields_of_words words)))) ≡ Ok start
+        → (if none then Fresh else if odd then Torn generation else Kept generation (fields_of_words words)) ≡ start
+    by_zero true odd e = cc
+    by_zero false true e = cc
+    by_zero false false e = (not_refused (first_fault (data_tests words)) (Kept generation (fields_of_words words)) start e).1
+
+pub image_of-start : (layout : Layout) (words : List ℕ) (start : Start) → image_of layout words ≡ Ok start → start_of words ≡ start
+unfolding image_of
+image_of-start layout words start is = by_magic (has_magic words) is
+  where
+    number : ℕ
+    number = (header_of (slice_index words 1)).2
+    by_header : Result Start ImageFault
+    by_header = unless (first_fault (header_tests layout (slice_index words 1))) (start_at words number)
+    of_zero : slice_index words 1 ≡ 0 → ◌≡◌ {A = Result Start ImageFault} (Ok Fresh) (Ok start) → start_of words ≡ start
+    of_zero zero_header e = rw zero_header cc
+    of_other : by_header ≡ Ok start → start_of words ≡ start
+    of_other e = of_tests (first_fault (header_tests layout (slice_index words 1))) e
+      where
+        of_tests : (fault : Option ImageFault) → unless fault (start_at words number) ≡ Ok start → start_of words ≡ start
+        of_tests None told = start_at-start words number start told
+        of_tests (Some refused) told = absurd cc
+    by_zero : (test : Bool) → (slice_index words 1 == 0) ≡ test → (if test then Ok Fresh else by_header) ≡ Ok start → start_of words ≡ start
+    by_zero true test e = of_zero (grind (arith, nat_tests)) e
+    by_zero false test e = of_other e
+    by_magic : (magic : Bool) → (if magic then if slice_index words 1 == 0 then Ok Fresh else by_header else Err fault.Magic) ≡ Ok start → start_of words ≡ start
+    by_magic true e = by_zero (slice_index words 1 == 0) refl e
+    by_magic false e = absurd cc

@@ -106,3 +106,11 @@ image_of layout words =
     if slice_index words 1 == 0 then Ok Fresh
     else unless (first_fault (header_tests layout (slice_index words 1))) (start_at words (header_of (slice_index words 1)).2)
     else Err fault.Magic
+
+-- what ten words hold, where they are admitted: word 1 alone tells whether nothing was published, whether an update is open, or under
+-- which number a record stands
+abbrev pub start_by : List ℕ → (generation : ℕ) → Start
+start_by words generation = if generation == 0 then Fresh else if generation % 2 == 1 then Torn generation else Kept generation (fields_of_words words)
+
+abbrev pub start_of : List ℕ → Start
+start_of words = start_by words (header_of (slice_index words 1)).2

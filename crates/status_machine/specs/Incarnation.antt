@@ -42,15 +42,12 @@ marks start past (Some marker) = marker_marks start past marker
 
 abbrev pub since_disrupted : ClockStatus → Option (List Poll)
 since_disrupted Disrupted = Some []
-since_disrupted Unknown = None
-since_disrupted Synchronized = None
-since_disrupted FreeRunning = None
+since_disrupted other = None
 
 -- a kept record that is disrupted is a mark before the first poll
 abbrev pub start_since_mark : Start → Option (List Poll)
-start_since_mark Fresh = None
-start_since_mark (Torn generation) = None
 start_since_mark (Kept generation rec) = since_disrupted rec.status
+start_since_mark other = None
 
 abbrev pub one_later : Option (List Poll) → Poll → Option (List Poll)
 one_later None poll = None
@@ -99,15 +96,12 @@ status_by disrupted good has_base =
 
 abbrev pub base_by_status : ClockStatus → Base → Option Base
 base_by_status Unknown base = None
-base_by_status Synchronized base = Some base
-base_by_status FreeRunning base = Some base
-base_by_status Disrupted base = Some base
+base_by_status known base = Some base
 
 -- the base that the segment gives: that of a kept record whose status isn't unknown
 abbrev pub start_base : Start → ℕ → Option Base
-start_base Fresh poll = None
-start_base (Torn generation) poll = None
 start_base (Kept generation rec) poll = base_by_status rec.status (record { as_of = rec.as_of; bound = rec.bound; poll = poll })
+start_base other poll = None
 
 -- the base: what the last synchronized poll gave, or else the segment
 abbrev pub base_at : Incarnation → List Poll → Option Base

@@ -24,8 +24,7 @@ heard_of (byte ∷ bytes) = heard_by (reply_of (byte ∷ bytes))
 -- the reference time of a readable reply
 abbrev pub reference_of : Heard → Option RefTime
 reference_of (Reply tracking) = Some tracking.ref_time
-reference_of Missing = None
-reference_of (Refused fault) = None
+reference_of unread = None
 
 -- the same three words
 abbrev pub is_same_time : RefTime → RefTime → Bool
@@ -42,8 +41,7 @@ base_of_good number (Err unfit) = None
 
 abbrev pub base_of_heard : Poll → Heard → Option Base
 base_of_heard poll (Reply tracking) = base_of_good poll.number (assess_of tracking poll.reading.mono)
-base_of_heard poll Missing = None
-base_of_heard poll (Refused fault) = None
+base_of_heard poll unread = None
 
 -- what a good poll gives: its first reading, its bound and its number
 unfoldable pub base_of_poll : Poll → Option Base
