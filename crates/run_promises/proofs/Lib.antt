@@ -14,4 +14,5 @@ pub mod GivenBases
 pub mod ClockRows
 pub mod FreshRuns
 pub mod KeptAnswers
+pub mod Among
 mod WorkedRows
