@@ -81,9 +81,8 @@ life_from trace start base =
 
 -- a record was moved: the opening's header was old, and it found a record
 abbrev pub is_move : (old : Bool) → Start → Bool
-is_move old Fresh = false
-is_move old (Torn generation) = false
 is_move old (Kept generation rec) = old
+is_move old other = false
 
 abbrev pub base_after : (moved : Bool) → ℕ → ℕ
 base_after moved base = if moved then 0 else base
