@@ -11,10 +11,10 @@ use Rattle.interval_now.specs.declared.answers.Answer.TheVariants as answers
 use Rattle.interval_now.specs.Interval.{interval_of}
 use Rattle.vmclock_page.specs.Host.{count_of}
 use Rattle.segment_layout.specs.History.{last_store}
+use Rattle.clock_gate.specs.ClockRow.{row_at}
 use Rattle.step_core.specs.RunHost.{HostRun, clocks_at, page_shown, marker_of, sequence_of}
 use Rattle.step_core.specs.RunPage.{PageAfter, Looks, Saw, Missed, page_load, is_marker_next}
 use Rattle.step_core.specs.RunSegment.{SegmentRun, header_shown, number_shown, number_at}
-use Rattle.step_core.specs.RunDaemon as run_daemon
 use Rattle.step_core.specs.RunDaemon.{marked_by}
 use Rattle.step_core.specs.RunClient as run_client
 use Rattle.step_core.specs.RunClient.{SegmentTry, SegmentReading, Reads, IsWhole, Unpublished, AllFailed, segment_try_fails, segment_last_load, segment_load_by, segment_reading, Clocked, CallStage, Reading, Clocking, Paging, Answered, CallAfter, Goes, Answers, CallRun, ClientRun}
@@ -65,7 +65,7 @@ module _ (Has : (left first last : ℕ) → Type 0) (tries : ℕ) where
       ]
 
   fails_by : (left first last : ℕ) (few : Bool) → nat_le left 1 ≡ few → AllBut Has tries left → (0 < left) × Has left first last
-      → AllAfter Has (run_client.after_segment tries (if few then AllFailed first last else Reads (record { left = left - 1; first = first; last = last; try = None }))) tries
+      → AllAfter Has (run_client.after_segment tries (if few then AllFailed first last else Reads (record { left = left - 1; try = None }))) tries
   fails_by left first last true test all own =
       let few : left ≤ 1 = grind (arith, nat_tests) in
       let some = own.0 in
@@ -128,7 +128,7 @@ module _ (Has : (left first last : ℕ) → Type 0) (tries : ℕ) where
 
     ends_all : (clocked : Clocked) (marker : Option ℕ) (sequence mark_at : ℕ) → AllAfter Has (run_client.call_ends trace clocked marker sequence mark_at) tries
     ends_all clocked marker sequence mark_at =
-        timed_all clocked sequence mark_at (interval_of clocked.read.rec (run_daemon.row_at trace.clock clocked.row).mono (run_daemon.row_at trace.clock clocked.row).real marker)
+        timed_all clocked sequence mark_at (interval_of clocked.read.rec (row_at trace.clock clocked.row).mono (row_at trace.clock clocked.row).real marker)
 
     clock_all : (clocked : Clocked) (page : Option (List ℕ)) → AllAfter Has (run_client.clock_by trace tries clocked page) tries
     clock_all clocked None = ends_all clocked None 0 clocked.clock_at

@@ -8,15 +8,47 @@ use Rattle.generation_word.specs.Layout.{period_of}
 use Rattle.vmclock_page.specs.Host.{count_of}
 use Rattle.interval_now.specs.declared.answers.Interval.{Interval}
 use Rattle.interval_now.specs.declared.answers.Causality.{Causality}
+use Rattle.interval_now.specs.declared.answers.Timed.{Timed}
+use Rattle.interval_now.specs.declared.answers.Answer.{Answer}
+use Rattle.interval_now.specs.declared.answers.Answer.TheVariants as answers
 use Rattle.interval_now.specs.Interval.{interval_of}
+use Rattle.segment_layout.specs.Record.{RecordFields}
+use Rattle.step_core.specs.declared.event.Trail.{Trail}
+use Rattle.clock_gate.specs.ClockRow.{row_at}
 use Rattle.step_core.specs.RunHost.{HostRun, PageShown, clocks_at, pages_at, page_shown, marker_of, sequence_of}
 use Rattle.step_core.specs.RunPage.{PageTry, PageReading, PageAfter, Looks, Saw, Missed, page_try_fails, page_load_by, page_last_load, page_load, is_marker_next}
 use Rattle.step_core.specs.RunSegment.{SegmentRun, header_shown, number_at, number_shown, published_at}
-use Rattle.step_core.specs.RunDaemon.{row_at, marked_by}
+use Rattle.step_core.specs.RunDaemon.{marked_by}
 use Rattle.step_core.specs.RunClient as run_client
-use Rattle.step_core.specs.RunClient.{SegmentTry, SegmentReading, SegmentAfter, Reads, IsWhole, Unpublished, AllFailed, segment_try_fails, segment_load, segment_load_by, segment_last_load, segment_try_load, WholeRead, Clocked, CallStage, Reading, Clocking, Paging, CallAfter, Goes, Answers}
-use Rattle.step_core.specs.RunLaws.{marker_by, sequence_by, IsAnswer}
+use Rattle.step_core.specs.RunClient.{SegmentTry, SegmentReading, SegmentAfter, Reads, IsWhole, Unpublished, AllFailed, segment_try_fails, segment_load, segment_load_by, segment_last_load, WholeRead, Clocked, CallStage, Reading, Clocking, Paging, CallAfter, Goes, Answers}
+use Rattle.step_core.specs.RunLaws.{marker_by, sequence_by}
 use Rattle.step_core.proofs.SegmentLoad.{begun_try, longer_try, whole_read}
+
+-- ---- what is said of an answer
+
+-- the record that a call read gave it its interval, at its clock row and with the page's marker; with fewer publications inside its
+-- read than a period it is the one at its position
+pub record HasRead (trace : Trace) (segment : SegmentRun) (time : Timed) (trail : Trail) (rec : RecordFields) : Type 0 where
+  pub interval : interval_of rec (row_at trace.clock time.row).mono (row_at trace.clock time.row).real (marker_by trace trail.mark_at trace.page) ≡ Ok time.interval
+  pub whole : trail.inside < period_of segment.layout → rec ≡ (published_at segment trail.position).rec
+
+pub record IsTimeOf (trace : Trace) (segment : SegmentRun) (time : Timed) (trail : Trail) : Type 0 where
+  -- a record stands in the history at that position, and no fewer publications than that and those inside the read have ended
+  pub known : segment.base < trail.position
+  pub before : trail.position + trail.inside ≤ segment.position
+  -- the clock is loaded before the page's marker
+  pub order : trail.clock_at ≤ trail.mark_at
+  pub row : time.row ≡ clocks_at trace.host trail.clock_at
+  pub sequence : time.sequence ≡ sequence_by trace trail.mark_at trace.page
+  pub generation : time.generation ≡ number_at segment trail.position
+  pub read : (rec : RecordFields) × HasRead trace segment time trail rec
+
+-- an answer has a trail where it has an interval, and nowhere else
+abbrev pub IsAnswer : Trace → SegmentRun → Answer → Option Trail → Type 0
+IsAnswer trace segment (answers.Time time) (Some trail) = IsTimeOf trace segment time trail
+IsAnswer trace segment (answers.Time time) None = ⊥
+IsAnswer trace segment other (Some trail) = ⊥
+IsAnswer trace segment other None = Unit {0}
 
 -- ---- a read of the segment
 
@@ -47,7 +79,7 @@ whole_of segment try known before =
       whole = λ few. (let test : nat_lt (segment.position - try.from) (period_of segment.layout) ≡ true = grind (arith, nat_tests) in rw test refl);
     }
 
-fails_by : (segment : SegmentRun) (left first last : ℕ) (few : Bool) → IsReadAfter segment (if few then AllFailed first last else Reads (record { left = left; first = first; last = last; try = None }))
+fails_by : (segment : SegmentRun) (left first last : ℕ) (few : Bool) → IsReadAfter segment (if few then AllFailed first last else Reads (record { left = left; try = None }))
 fails_by segment left first last true = tt
 fails_by segment left first last false = tt
 
@@ -91,7 +123,7 @@ IsPageFrom shown before (Looks reading) = IsLookFrom before reading.try
 IsPageFrom shown before (Saw page) = IsSawFrom shown before page
 IsPageFrom shown before (Missed first last) = Unit {0}
 
-missed_by : (shown : PageShown) (before : Option PageTry) (left first last : ℕ) (few : Bool) → IsPageFrom shown before (if few then Missed first last else Looks (record { left = left; first = first; last = last; try = None }))
+missed_by : (shown : PageShown) (before : Option PageTry) (left first last : ℕ) (few : Bool) → IsPageFrom shown before (if few then Missed first last else Looks (record { left = left; try = None }))
 missed_by shown before left first last true = tt
 missed_by shown before left first last false = tt
 

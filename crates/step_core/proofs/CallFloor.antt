@@ -5,12 +5,12 @@ use Rattle.interval_now.specs.declared.answers.Interval.{Interval}
 use Rattle.interval_now.specs.declared.answers.Causality.{Causality}
 use Rattle.interval_now.specs.Interval.{interval_of}
 use Rattle.vmclock_page.specs.Host.{count_of}
+use Rattle.clock_gate.specs.ClockRow.{row_at}
 use Rattle.step_core.specs.declared.event.Trail.{Trail}
 use Rattle.step_core.specs.RunHost.{HostRun, clocks_at, page_shown, marker_of, sequence_of}
 use Rattle.step_core.specs.RunPage.{PageAfter, Looks, Saw, Missed, page_load, is_marker_next}
 use Rattle.step_core.specs.RunSegment.{SegmentRun}
-use Rattle.step_core.specs.RunDaemon as run_daemon
-use Rattle.step_core.specs.RunDaemon.{Life, Asked, Storing, Work, Resting, Opening, Asking, Looking, Taking, Writing, DaemonRun, DaemonTurn, daemon_turn, marked_by}
+use Rattle.step_core.specs.RunDaemon.{marked_by}
 use Rattle.step_core.specs.RunClient as run_client
 use Rattle.step_core.specs.RunClient.{SegmentTry, SegmentReading, SegmentAfter, Reads, IsWhole, Unpublished, AllFailed, segment_load, segment_reading, WholeRead, Clocked, CallStage, Reading, Clocking, Paging, Answered, CallAfter, Goes, Answers, CallRun, ClientRun}
 use Rattle.step_core.proofs.SegmentTrail.{IsTryFrom, IsWholeFrom, IsAfterFrom, segment_load_from}
@@ -76,7 +76,7 @@ module _ (trace : Trace) (host : HostRun) (segment : SegmentRun) where
   ends_floor : (clocked : Clocked) (marker : Option ℕ) (sequence mark_at : ℕ) → clocked.read.position ≤ segment.position
       → RisesTo segment clocked.read.position (run_client.call_ends trace clocked marker sequence mark_at)
   ends_floor clocked marker sequence mark_at below =
-      timed_floor clocked sequence mark_at (interval_of clocked.read.rec (run_daemon.row_at trace.clock clocked.row).mono (run_daemon.row_at trace.clock clocked.row).real marker) below
+      timed_floor clocked sequence mark_at (interval_of clocked.read.rec (row_at trace.clock clocked.row).mono (row_at trace.clock clocked.row).real marker) below
 
   clock_floor : (tries : ℕ) (clocked : Clocked) (page : Option (List ℕ)) → clocked.read.position ≤ segment.position → RisesTo segment clocked.read.position (run_client.clock_by trace tries clocked page)
   clock_floor tries clocked None below = ends_floor clocked None 0 clocked.clock_at below

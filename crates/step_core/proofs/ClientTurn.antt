@@ -180,7 +180,7 @@ module _ (trace : Trace) (host : HostRun) (segment : SegmentRun) (words : List �
 
   clock_step : (tries : ℕ) (whole : WholeRead) (generation : ℕ) (rec : RecordFields) (value : ℕ) (marks : Marks) → 0 < tries → generation ≡ whole.generation → rec ≡ whole.rec → value ≡ clocks_at trace.host host.done
       → IsReadAt whole marks
-      → ShowsCallAfter trace host segment tries (run_client.clock_step trace host tries whole)
+      → ShowsCallAfter trace host segment tries (run_client.call_step trace host segment tries (Clocking whole))
       (calls.after_clock tries (is_some trace.page) generation rec (reading_at trace.clock value)) (record marks { clock_at = host.done; mark_at = host.done })
   clock_step tries whole generation rec value marks some same_generation same_rec same_value is =
       rw (same_generation, same_rec, same_value)

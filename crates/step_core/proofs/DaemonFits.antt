@@ -13,7 +13,7 @@ use Rattle.status_machine.specs.Incarnation.{Incarnation}
 use Rattle.status_machine.specs.Step.{daemon_step, record_of, begun}
 use Rattle.status_machine.proofs.Fits.{StartFits, daemon_step-fits, record_of-fits, begun-fits}
 use Rattle.writer_reopen.specs.PollMachine.{DaemonFits}
-use Rattle.step_core.specs.RunDaemon.{no_row, row_at}
+use Rattle.clock_gate.specs.ClockRow.{no_row, row_at}
 use Rattle.step_core.proofs.SegmentEnded.{KeepsBoundsOf}
 
 -- the monotonic time of any row lies before the last moment

@@ -22,7 +22,7 @@ use Rattle.step_core.specs.declared.marks.PollMarks.{PollMarks}
 use Rattle.step_core.specs.RunHost.{HostRun, page_shown, marker_of, sequence_of}
 use Rattle.step_core.specs.RunPage.{PageReading, PageAfter, Looks, Saw, Missed, page_reading, page_load, is_marker_next}
 use Rattle.step_core.specs.RunSegment.{SegmentRun}
-use Rattle.step_core.specs.RunDaemon.{Life, Asked, Looking, Taking, DaemonRun, poll_row, look_by, look_step, marked_by, ask_by}
+use Rattle.step_core.specs.RunDaemon.{Life, Asked, Looking, Taking, DaemonRun, poll_row, look_by, daemon_turn_by, marked_by, ask_by}
 use Rattle.step_core.specs.SharedWords.{after_act, value_of}
 use Rattle.step_core.specs.SharedDaemon.{DaemonState, polling_by, polling_with, polling_after, noted_clock, noted_poll}
 use Rattle.step_core.specs.ShowsHost.{AreRows, ShowsHost, ShowsPageRead}
@@ -144,7 +144,7 @@ some_page (Some page) paged = (page, refl)
 pub look_turned : (trace : Trace) (host : HostRun) (machine : Host) (segment : SegmentRun) (words : List ℕ) (run : DaemonRun) (row marked_at : ℕ) (reading : PageReading) (order : Order) (daemon : DaemonState) (asked : Reading) (read : SeqlockRead) (stop : Option ℕ) (marks : PollMarks)
     → AreRows trace.page (length trace.clock) trace.host → ShowsHost trace.page trace.host host machine words → ShowsSegment segment words → slice_index words 0 ≡ MAGIC
     → IsOpenPoll trace segment run order daemon stop → asked ≡ reading_at trace.clock row → IsMarkedAt marked_at marks → is_some trace.page ≡ true → ShowsPageRead trace.page trace.host host trace.tries reading read
-    → Turned trace host segment words (after_act words (polling_act (in_looking order asked read stop marks).machine)) (look_step trace host segment run row reading marked_at)
+    → Turned trace host segment words (after_act words (polling_act (in_looking order asked read stop marks).machine)) (daemon_turn_by trace host segment run (Looking row reading marked_at))
     (polling_with daemon (polling_after trace host.done (in_looking order asked read stop marks) (value_of words (polling_act (in_looking order asked read stop marks).machine))))
 look_turned trace host machine segment words run row marked_at reading order daemon asked read stop marks rows hosted shows magic is at marked paged reads =
     let page = some_page trace.page paged in
@@ -155,7 +155,7 @@ look_turned trace host machine segment words run row marked_at reading order dae
     ap (λ (found : Option PageSeen). poll_progress.act_of (looking_by (page_read.act_of read) found)) open_yet ∙ loads.act in
     let next_segment = look_segment trace segment run row (marked_by (is_marker_next reading.try) host.done marked_at) (page_load (count_of trace.page) (page_shown trace.host host) reading) in
     subst (λ (act : Act).
-    Turned trace host segment words (after_act words act) (look_step trace host segment run row reading marked_at)
+    Turned trace host segment words (after_act words act) (daemon_turn_by trace host segment run (Looking row reading marked_at))
     (polling_with daemon (record {
       machine = polling_given trace.clock (in_looking order asked read stop marks).machine (value_of words act);
       stop = stop;
@@ -170,7 +170,7 @@ look_turned trace host machine segment words run row marked_at reading order dae
       later = subst (λ (s : SegmentRun). IsSegmentLater segment s) (sym next_segment) (later_same segment);
       rest = record { same = λ word low high. refl };
       same_layout = ap (λ (s : SegmentRun). s.layout) next_segment;
-      magic = magic_while (look_step trace host segment run row reading marked_at).daemon.work (look_step trace host segment run row reading marked_at).daemon.life words magic;
+      magic = magic_while (daemon_turn_by trace host segment run (Looking row reading marked_at)).daemon.work (daemon_turn_by trace host segment run (Looking row reading marked_at)).daemon.life words magic;
     })
 
 -- ---- the first load of the clock

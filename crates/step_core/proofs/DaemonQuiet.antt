@@ -13,7 +13,7 @@ use Rattle.step_core.specs.declared.event.Event.TheVariants as events
 use Rattle.step_core.specs.declared.event.Trail.{Trail}
 use Rattle.step_core.specs.RunHost.{HostRun, clocks_at, page_shown}
 use Rattle.step_core.specs.RunPage.{PageAfter, Looks, Saw, Missed, page_load, is_marker_next}
-use Rattle.step_core.specs.RunSegment.{SegmentRun, opening_effect, opening_length, headed, opened_update, moved_once, stored, stored_by, is_old, start_found, one_store_more}
+use Rattle.step_core.specs.RunSegment.{SegmentRun, number_shown, opening_effect, opening_length, headed, opened_update, moved_once, stored, stored_by, is_old, start_found, one_store_more}
 use Rattle.step_core.specs.RunDaemon as run_daemon
 use Rattle.step_core.specs.RunDaemon.{Life, Asked, Storing, Work, Resting, Opening, Asking, Looking, Taking, Writing, DaemonRun, DaemonTurn, daemon_turn, marked_by}
 use Rattle.step_core.specs.RunLaws.{with_trail, positions_of}
@@ -84,7 +84,7 @@ stored_rises segment publication stores =
     either_rises (stores == 0) segment _ (stored_by segment publication stores) (omega arith)
     (either_rises (stores == 9) segment _ (record segment { begun = one_store_more segment.begun }) (omega arith) (omega arith))
 
-opening_told : (moved : Bool) (poll : ℕ) (begins : Start) (segment : SegmentRun) → AreQuiet (run_daemon.opening_events moved poll begins segment)
+opening_told : (moved : Bool) (poll : ℕ) (begins : Start) (segment : SegmentRun) → AreQuiet (if moved then events.Opened poll begins ∷ events.Moved poll segment.position (number_shown segment) ∷ [] else events.Opened poll begins ∷ [])
 opening_told true poll begins segment = tt
 opening_told false poll begins segment = tt
 

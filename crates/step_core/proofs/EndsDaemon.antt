@@ -13,7 +13,7 @@ use Rattle.step_core.specs.declared.event.Event.TheVariants.{Stopped}
 use Rattle.step_core.specs.RunHost.{HostRun, clocks_at, page_shown}
 use Rattle.step_core.specs.RunPage.{PageAfter, Looks, Saw, Missed, page_reading, page_load, is_marker_next}
 use Rattle.step_core.specs.RunSegment.{SegmentRun, opening_length, opening_effect, start_found, is_old, stored}
-use Rattle.step_core.specs.RunDaemon.{Life, Asked, Storing, Work, Resting, Opening, Asking, Looking, Taking, Writing, DaemonRun, no_poll, poll_row, is_move, life_from, base_after, opening_ends, opening_step, poll_of, is_stop, stops, published, publication_ends, publication_of, after_stores, store_step, taken, take_step, look_by, marked_by, ask_by, poll_begins, next_poll, daemon_turn_by}
+use Rattle.step_core.specs.RunDaemon.{Life, Asked, Storing, Work, Resting, Opening, Asking, Looking, Taking, Writing, DaemonRun, no_poll, poll_row, is_move, life_from, opening_ends, opening_step, poll_of, is_stop, stops, published, publication_ends, publication_of, after_stores, store_step, taken, look_by, marked_by, ask_by, poll_begins, next_poll, daemon_turn_by}
 use Rattle.step_core.specs.RunWhole.{is_resting, polls_ended, has_poll}
 use Rattle.step_core.proofs.EndsPage.{page_left, IsPageNearer, page_nearer, page_some}
 
@@ -145,8 +145,8 @@ module _ (trace : Trace) (polled left : ℕ) (some : 1 ≤ polled) (within : pol
       (if test then opening_ends trace (opening_effect start steps segment) daemon start (is_move old start)
       else record { segment = opening_effect start steps segment; daemon = record daemon { work = Opening start old (steps + 1) }; events = [] }).daemon
   opening_by true segment daemon start old steps is same low more few =
-      subst (λ (n : ℕ). HasMoved trace (polled - 1) left (record { life = Some (life_from trace start (base_after (is_move old start) daemon.base)); work = Asking; polled = n; base = base_after (is_move old start) daemon.base })) (sym same)
-      (goes (Some (life_from trace start (base_after (is_move old start) daemon.base))) Asking (base_after (is_move old start) daemon.base) refl tt (omega (arith, low, more)) few)
+      subst (λ (n : ℕ). HasMoved trace (polled - 1) left (record { life = Some (life_from trace start (if is_move old start then 0 else daemon.base)); work = Asking; polled = n; base = if is_move old start then 0 else daemon.base })) (sym same)
+      (goes (Some (life_from trace start (if is_move old start then 0 else daemon.base))) Asking (if is_move old start then 0 else daemon.base) refl tt (omega (arith, low, more)) few)
   opening_by false segment daemon start old steps is same low more few =
       let next : steps + 1 < opening_length old start = grind (arith, nat_tests) in
       works_move daemon (Opening start old (steps + 1)) same refl next (omega (arith, next, more)) few
@@ -223,7 +223,7 @@ daemon_turns trace host segment daemon (Looking row reading marked_at) is ends t
 daemon_turns trace host segment daemon (Taking asked) is ends tries =
     let some : 1 ≤ daemon.polled = ends.begun (ap is_resting is) in
     let lives : IsAlive daemon.life = subst (WorkEnds daemon.life) is ends.work in
-    turned trace daemon (take_step trace host segment daemon asked).daemon (daemon.polled - 1) 11 (rw is refl) (ap (work_left trace.tries) is)
+    turned trace daemon (daemon_turn_by trace host segment daemon (Taking asked)).daemon (daemon.polled - 1) 11 (rw is refl) (ap (work_left trace.tries) is)
     (taken_moves trace daemon.polled 11 some ends.polled segment daemon asked (poll_of trace daemon asked) (clocks_at trace.host host.done) host.done daemon.life lives refl (omega arith) (omega (arith, tries)))
 daemon_turns trace host segment daemon (Writing storing) is ends tries =
     let some : 1 ≤ daemon.polled = ends.begun (ap is_resting is) in

@@ -25,7 +25,7 @@ IsPageNearer before (Saw page) = Unit {0}
 IsPageNearer before (Missed first last) = Unit {0}
 
 page_fails_by : (over : Bool) (left first last before : ℕ) → nat_le left 1 ≡ over → 3 * (left - 1) < before
-    → IsPageNearer before (if over then Missed first last else Looks (record { left = left - 1; first = first; last = last; try = None }))
+    → IsPageNearer before (if over then Missed first last else Looks (record { left = left - 1; try = None }))
 page_fails_by true left first last before is more = tt
 page_fails_by false left first last before is more = (let some : 1 < left = grind (arith, nat_tests) in omega (arith, some, more))
 
@@ -80,7 +80,7 @@ IsSegmentNearer before Unpublished = Unit {0}
 IsSegmentNearer before (AllFailed first last) = Unit {0}
 
 segment_fails_by : (over : Bool) (left first last before : ℕ) → nat_le left 1 ≡ over → 10 * (left - 1) < before
-    → IsSegmentNearer before (if over then AllFailed first last else Reads (record { left = left - 1; first = first; last = last; try = None }))
+    → IsSegmentNearer before (if over then AllFailed first last else Reads (record { left = left - 1; try = None }))
 segment_fails_by true left first last before is more = tt
 segment_fails_by false left first last before is more = (let some : 1 < left = grind (arith, nat_tests) in omega (arith, some, more))
 

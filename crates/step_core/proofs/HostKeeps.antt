@@ -105,12 +105,10 @@ page_read_later start rows old new tries reading read later h =
       some_left = h.some_left;
       same_tries = h.same_tries;
       same_left = h.same_left;
-      same_first = h.same_first;
-      same_last = h.same_last;
       try = try_of_later start rows old new reading.try read.values later h.try;
     }
 
 -- a new reader shows a new read
 pub page_read_new : (start : Option (List ℕ)) (rows : List HostRow) (host : HostRun) (tries : ℕ) → 0 < tries → ShowsPageRead start rows host tries (page_reading tries) (started tries)
 page_read_new start rows host tries some =
-    record { some_left = some; same_tries = refl; same_left = refl; same_first = refl; same_last = refl; try = refl }
+    record { some_left = some; same_tries = refl; same_left = refl; try = refl }

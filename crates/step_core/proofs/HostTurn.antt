@@ -15,7 +15,7 @@ use Rattle.clock_gate.specs.declared.trace.HostRow.TheVariants.{Clock, Page, Dis
 use Rattle.vmclock_page.specs.Words.{word_with_count}
 use Rattle.vmclock_page.specs.Rows.{IsRowOf, ArePageRows}
 use Rattle.vmclock_page.specs.Host.{Host, begun, act_of, given, constants_of, count_of, raised, page_stores}
-use Rattle.step_core.specs.RunHost.{HostRun, clocks_at, pages_at, pages_of, sequence_of, page_store, row_turn, host_turn}
+use Rattle.step_core.specs.RunHost.{HostRun, clocks_at, pages_at, pages_of, sequence_of, row_turn, host_turn}
 use Rattle.step_core.specs.SharedWords.{after_act, if_ended}
 use Rattle.step_core.specs.SharedHost.{HostState, host_ready, host_takes, host_act, host_after}
 use Rattle.step_core.specs.ShowsHost.{AreRows, ShowsHost, HasPage, HasPageOf, count_word}
@@ -320,7 +320,7 @@ taken_by start clocks rows done machine words (Some Disrupt) are h at = disrupt_
 stored_by : (start page : List ℕ) (rows : List HostRow) (done stores count : ℕ) (words : List ℕ) → 0 < stores → stores < 13 → slice_get rows done ≡ Some (Page page)
     → ShowsHost (Some start) rows (storing done stores) (page_machine (Some start) count page stores) words
     → ((word : ℕ) → 12 ≤ word → word < 11 + stores → slice_index words word ≡ slice_index page (word - 10))
-    → HostTurned (Some start) rows (storing done stores) (page_store (storing done stores)) words (record { machine = page_machine (Some start) count page stores; done = done })
+    → HostTurned (Some start) rows (storing done stores) (row_turn (storing done stores) (Some (Page page))) words (record { machine = page_machine (Some start) count page stores; done = done })
 stored_by start page rows done stores count words some few at h before =
     elim (cases_lt stores 12) [
       | inl less ↦
@@ -329,14 +329,14 @@ stored_by start page rows done stores count words some few at h before =
           (page_goes start page rows done stores count words some less at h before))
       | inr past ↦
           (let last : 12 ≡ stores = omega arith in
-          subst (λ (made : ℕ). ShowsHost (Some start) rows (storing done made) (page_machine (Some start) count page made) words → ((word : ℕ) → 12 ≤ word → word < 11 + made → slice_index words word ≡ slice_index page (word - 10)) → HostTurned (Some start) rows (storing done made) (page_store (storing done made)) words (record { machine = page_machine (Some start) count page made; done = done }))
+          subst (λ (made : ℕ). ShowsHost (Some start) rows (storing done made) (page_machine (Some start) count page made) words → ((word : ℕ) → 12 ≤ word → word < 11 + made → slice_index words word ≡ slice_index page (word - 10)) → HostTurned (Some start) rows (storing done made) (row_turn (storing done made) (Some (Page page))) words (record { machine = page_machine (Some start) count page made; done = done }))
           last (λ shows there. page_ends start page rows done count words at shows there) h before)
     ]
 
 in_hand_by : (start : Option (List ℕ)) (page : List ℕ) (rows : List HostRow) (done stores count : ℕ) (words : List ℕ) → IsRowOf start (Page page) → 0 < stores → stores < 13 → slice_get rows done ≡ Some (Page page)
     → ShowsHost start rows (storing done stores) (page_machine start count page stores) words
     → ((word : ℕ) → 12 ≤ word → word < 11 + stores → slice_index words word ≡ slice_index page (word - 10))
-    → HostTurned start rows (storing done stores) (page_store (storing done stores)) words (record { machine = page_machine start count page stores; done = done })
+    → HostTurned start rows (storing done stores) (row_turn (storing done stores) (Some (Page page))) words (record { machine = page_machine start count page stores; done = done })
 in_hand_by None page rows done stores count words is some few at h before = absurd is
 in_hand_by (Some start) page rows done stores count words is some few at h before = stored_by start page rows done stores count words some few at h before
 
@@ -360,7 +360,7 @@ stores_more start clocks rows done stores page machine words are h some few at i
     let ready : host_ready rows (record { machine = machine; done = done }) ≡ host =
     ap (λ (m : Host). host_ready rows (record { machine = m; done = done })) is
     ∙ goes_on (constants_of start) machine.count page stores (host_takes host (slice_get rows done)) host some few in
-    let turns : page_store (storing done stores) ≡ host_turn rows (storing done stores) = rw at refl in
+    let turns : row_turn (storing done stores) (Some (Page page)) ≡ host_turn rows (storing done stores) = rw at refl in
     subst (HostTurned start rows (storing done stores) (host_turn rows (storing done stores)) words) (sym ready)
     (subst (λ (new : HostRun). HostTurned start rows (storing done stores) new words host) turns
     (in_hand_by start page rows done stores machine.count words (row_is start rows done (Page page) are.pages at) some few at shows before))

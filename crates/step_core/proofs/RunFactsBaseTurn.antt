@@ -16,6 +16,7 @@ use Rattle.status_machine.specs.Incarnation.{base_at, start_base, base_by_status
 use Rattle.status_machine.specs.Poll.{base_of_poll, is_good, heard_of}
 use Rattle.status_machine.proofs.BaseOfPoll.{base_of_poll-number, base_of_poll-unmarked}
 use Rattle.vmclock_page.specs.Host.{count_of}
+use Rattle.clock_gate.specs.ClockRow.{reading_at}
 use Rattle.step_core.specs.declared.event.Event.{Event}
 use Rattle.step_core.specs.declared.event.Event.TheVariants.{Opened, Moved, Published, Skipped, Stopped}
 use Rattle.step_core.specs.RunHost.{HostRun, clocks_at, page_shown}
@@ -308,7 +309,7 @@ module _ (trace : Trace) (past : List Event) where
         λ position.
             either_holds (not (is_disrupted life.from.start (poll ∷ life.past)) && is_good poll) position publication asked.marked_at replied_at (segment.position + 1) done
             (base_of_poll poll) (base_at life.from life.past)
-            (base_of_poll-unmarked daemon.polled (run_daemon.reading_at trace.clock asked.row) asked.marker (heard_of (run_daemon.poll_row trace daemon).reply))
+            (base_of_poll-unmarked daemon.polled (reading_at trace.clock asked.row) asked.marker (heard_of (run_daemon.poll_row trace daemon).reply))
             (λ base given. base_of_poll-number poll base given) earlier held fits,
       )
       refl

@@ -7,11 +7,12 @@ use Rattle.interval_now.specs.declared.answers.Interval.{Interval}
 use Rattle.interval_now.specs.declared.answers.Causality.{Causality}
 use Rattle.interval_now.specs.Interval.{interval_of}
 use Rattle.vmclock_page.specs.Host.{count_of}
+use Rattle.clock_gate.specs.ClockRow.{row_at}
 use Rattle.step_core.specs.declared.event.Event.{Event}
 use Rattle.step_core.specs.RunHost.{HostRun, clocks_at, page_shown, marker_of, sequence_of}
 use Rattle.step_core.specs.RunPage.{PageAfter, Looks, Saw, Missed, page_load, is_marker_next}
 use Rattle.step_core.specs.RunSegment.{SegmentRun, header_shown, number_shown, number_at}
-use Rattle.step_core.specs.RunDaemon.{marked_by, row_at}
+use Rattle.step_core.specs.RunDaemon.{marked_by}
 use Rattle.step_core.specs.RunClient as run_client
 use Rattle.step_core.specs.RunClient.{SegmentTry, SegmentReading, SegmentAfter, Reads, IsWhole, Unpublished, AllFailed, segment_try_fails, segment_load_by, segment_last_load, segment_load, segment_reading, WholeRead, Clocked, CallStage, Reading, Clocking, Paging, Answered, CallAfter, Goes, Answers, CallRun, ClientRun, ClientTurn}
 use Rattle.step_core.specs.RunFacts.{made_by, StoodAt, TrailTells}
@@ -94,7 +95,7 @@ module _ (trace : Trace) (host : HostRun) (segment : SegmentRun) (past : List Ev
   AfterFits Unpublished = Unit {0}
   AfterFits (AllFailed first last) = Unit {0}
 
-  fails_by : (left first last : ℕ) (few : Bool) → AfterFits (if few then AllFailed first last else Reads (record { left = left; first = first; last = last; try = None }))
+  fails_by : (left first last : ℕ) (few : Bool) → AfterFits (if few then AllFailed first last else Reads (record { left = left; try = None }))
   fails_by left first last true = tt
   fails_by left first last false = tt
 

@@ -394,7 +394,7 @@ module _ (trace : Trace) (host : HostRun) (segment : SegmentRun) (daemon : Daemo
       (stays_so daemon.polled earlier) h.tells fits before
 
   looks_tell : (row marked_at : ℕ) (reading : PageReading) → AllEarlier (segment.position + 1) daemon.polled host.done past → IsAsked trace row marked_at → marked_at ≤ host.done
-      → Tells (run_daemon.look_step trace host segment daemon row reading marked_at)
+      → Tells (run_daemon.daemon_turn_by trace host segment daemon (Looking row reading marked_at))
   looks_tell row marked_at reading earlier fits before =
       let bounds = marked_bounds trace segment.base segment.position segment.is_writing host.done past high (is_marker_next reading.try) marked_at before in
       look_tells trace segment.base segment.position segment.is_writing host.done past high segment daemon row (marked_by (is_marker_next reading.try) host.done marked_at)

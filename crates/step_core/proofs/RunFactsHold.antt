@@ -1,5 +1,5 @@
 -- Every lawful run's events tell what is stated of them: each turn keeps it.
-use Rattle.std.proofs.Common.{◌≡◌, ℕ, zero, suc, ◌+◌, ◌-◌, ◌≤◌, ◌<◌, Bool, true, false, List, [], ◌∷◌, ◌++◌, length, take, Option, Some, None, Result, Ok, Err, refl, sym, subst, arith}
+use Rattle.std.proofs.Common.{◌≡◌, ℕ, zero, suc, ◌+◌, ◌-◌, ◌≤◌, ◌<◌, Bool, true, false, List, [], ◌∷◌, ◌++◌, length, take, Option, Some, None, refl, sym, subst, arith}
 use Rattle.std.specs.Prelude.{◌==◌, ◌/◌, reverse, slice_get, slice_set, map, if◌then◌else◌}
 use Rattle.std.specs.List.{range_with_len}
 use Rattle.std.proofs.lemmas.Bool.Decides.{nat_tests}
@@ -11,10 +11,9 @@ use Rattle.clock_gate.specs.declared.trace.Party.{Party}
 use Rattle.clock_gate.specs.declared.trace.Party.TheVariants.{Host, Daemon, Client}
 use Rattle.clock_gate.specs.declared.trace.Trace.{Trace}
 use Rattle.clock_gate.specs.Trace.{IsLawfulTrace}
-use Rattle.segment_layout.specs.declared.image_fault.ImageFault.{ImageFault}
 use Rattle.segment_layout.specs.declared.start.Start.{Start}
 use Rattle.segment_layout.specs.declared.start.Start.TheVariants.{Fresh, Kept, Torn}
-use Rattle.segment_layout.specs.Image.{image_of}
+use Rattle.segment_layout.specs.Image.{start_of}
 use Rattle.vmclock_page.specs.Host.{count_of}
 use Rattle.step_core.specs.declared.event.Event.{Event}
 use Rattle.step_core.specs.declared.event.Event.TheVariants as events
@@ -186,23 +185,22 @@ turn_holds trace run (Client zero) h = h
 turn_holds trace run (Client (suc place)) h = client_holds trace run place (slice_get run.clients place) refl h
 
 -- the image's record stands at its position
-kept_stands : (trace : Trace) (generation : ℕ) (found : Result Start ImageFault) → image_of trace.layout trace.image ≡ found → is_kept_at (generation / 2) found ≡ true
+kept_stands : (trace : Trace) (generation : ℕ) (found : Start) → start_of trace.image ≡ found → is_kept_at (generation / 2) found ≡ true
     → Stands trace (generation / 2 - 1) (generation / 2) false 1 []
 kept_stands trace generation found is kept =
     record {
       within = omega arith;
       readable = λ off some. omega (arith, some);
       few = omega arith;
-      stood = λ n low high. (let same : generation / 2 ≡ n = omega (arith, low, high) in subst (λ (k : ℕ). is_kept_at k (image_of trace.layout trace.image) ≡ true) same (rw is kept));
+      stood = λ n low high. (let same : generation / 2 ≡ n = omega (arith, low, high) in subst (λ (k : ℕ). is_kept_at k (start_of trace.image) ≡ true) same (rw is kept));
     }
 
-image_stands : (trace : Trace) (found : Result Start ImageFault) → image_of trace.layout trace.image ≡ found
+image_stands : (trace : Trace) (found : Start) → start_of trace.image ≡ found
     → Stands trace (segment_by trace.layout trace.image (count_of trace.page) found).base (segment_by trace.layout trace.image (count_of trace.page) found).position
     (segment_by trace.layout trace.image (count_of trace.page) found).is_writing 1 []
-image_stands trace (Ok Fresh) is = record { within = omega arith; readable = λ off some. absurd (some refl); few = omega arith; stood = λ n low high. absurd (omega (arith, low, high)) }
-image_stands trace (Ok (Torn generation)) is = record { within = omega arith; readable = λ off some. absurd (cc off); few = omega arith; stood = λ n low high. absurd (omega (arith, low, high)) }
-image_stands trace (Ok (Kept generation rec)) is = kept_stands trace generation (Ok (Kept generation rec)) is (grind (arith, nat_tests))
-image_stands trace (Err fault) is = record { within = omega arith; readable = λ off some. absurd (some refl); few = omega arith; stood = λ n low high. absurd (omega (arith, low, high)) }
+image_stands trace Fresh is = record { within = omega arith; readable = λ off some. absurd (some refl); few = omega arith; stood = λ n low high. absurd (omega (arith, low, high)) }
+image_stands trace (Torn generation) is = record { within = omega arith; readable = λ off some. absurd (cc off); few = omega arith; stood = λ n low high. absurd (omega (arith, low, high)) }
+image_stands trace (Kept generation rec) is = kept_stands trace generation (Kept generation rec) is (grind (arith, nat_tests))
 
 some_rows : (rows : List HostRow) → take 1 rows ≡ Clock 1 ∷ [] → 1 ≤ length rows
 some_rows [] begins = absurd (cc begins)
@@ -212,7 +210,7 @@ pub start_holds : (trace : Trace) → IsLawfulTrace trace → RunHolds trace (st
 start_holds trace lawful =
     record {
       high = some_rows trace.host lawful.host.begins;
-      daemon_holds = record { stands = image_stands trace (image_of trace.layout trace.image) refl; earlier = tt; fits = tt; tells = tt };
+      daemon_holds = record { stands = image_stands trace (start_of trace.image) refl; earlier = tt; fits = tt; tells = tt };
       clients_fit = none_begun trace (start trace).segment.base (start trace).segment.position 1 [] (range_with_len 1 trace.clients);
     }
 

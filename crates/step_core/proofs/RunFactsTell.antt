@@ -1,14 +1,14 @@
 -- The events of every lawful run that can run tell what is stated of them, their bases too.
-use Rattle.std.proofs.Common.{◌≡◌, ℕ, zero, suc, ◌+◌, ◌<◌, List, ◌∷◌, ◌++◌, length, Option, Some, None, Result, Ok, Err, refl, sym, subst, arith}
-use Rattle.std.specs.Prelude.{◌%◌, ◌^◌, reverse, slice_get, slice_index}
+use Rattle.std.proofs.Common.{◌≡◌, ℕ, zero, suc, ◌+◌, List, ◌∷◌, ◌++◌, length, Option, Some, None, refl, sym, subst, arith}
+use Rattle.std.specs.Prelude.{reverse, slice_get, slice_index}
 use Rattle.std.proofs.lemmas.List.{reverse-append}
 use Rattle.clock_gate.specs.declared.trace.Party.{Party}
 use Rattle.clock_gate.specs.declared.trace.Party.TheVariants.{Host, Daemon, Client}
 use Rattle.clock_gate.specs.declared.trace.Trace.{Trace}
-use Rattle.segment_layout.specs.declared.image_fault.ImageFault.{ImageFault}
 use Rattle.segment_layout.specs.declared.start.Start.{Start}
 use Rattle.segment_layout.specs.declared.start.Start.TheVariants.{Fresh, Kept, Torn}
-use Rattle.segment_layout.specs.Image.{image_of}
+use Rattle.generation_word.specs.Header.{header_of}
+use Rattle.segment_layout.specs.Image.{start_of}
 use Rattle.vmclock_page.specs.Host.{count_of}
 use Rattle.step_core.specs.declared.event.Event.{Event}
 use Rattle.step_core.specs.declared.event.Event.TheVariants as events
@@ -22,7 +22,7 @@ use Rattle.step_core.specs.RunFacts.{RunsTell}
 use Rattle.step_core.proofs.RunKeeps.{run_keeps}
 use Rattle.step_core.proofs.RunFactsHold.{RunHolds, turn_holds, start_holds}
 use Rattle.step_core.proofs.RunFactsBaseTurn.{Based, based_same, daemon_based}
-use Rattle.step_core.proofs.SegmentStart.{Holds, admitted_holds}
+use Rattle.step_core.proofs.SegmentStart.{kept_number}
 
 abbrev RunBased : Trace → Run → Type 0
 RunBased trace run = Based trace run.segment run.daemon (reverse run.events)
@@ -55,22 +55,21 @@ turn_based trace run Daemon holds h =
 turn_based trace run (Client zero) holds h = h
 turn_based trace run (Client (suc place)) holds h = turn_in_based trace run (suc place) (slice_get run.clients place) h
 
-image_known : (trace : Trace) (found : Result Start ImageFault) → slice_index trace.image 1 < 2 ^ 64 → image_of trace.layout trace.image ≡ found
-    → length (segment_by trace.layout trace.image (count_of trace.page) found).history + (segment_by trace.layout trace.image (count_of trace.page) found).base
-    ≡ (segment_by trace.layout trace.image (count_of trace.page) found).position
-image_known trace (Ok Fresh) fits is = refl
-image_known trace (Ok (Torn generation)) fits is = omega arith
-image_known trace (Ok (Kept generation rec)) fits is =
-    let holds : Holds trace.layout trace.image (Kept generation rec) = (admitted_holds trace.layout trace.image (Kept generation rec) fits is).holds in
-    let even : generation % 2 ≡ 0 = holds.1.0 in
-    let some : 0 < generation = holds.1.1.0 in
+image_known : (trace : Trace) (begins : Start) → start_of trace.image ≡ begins
+    → length (segment_by trace.layout trace.image (count_of trace.page) begins).history + (segment_by trace.layout trace.image (count_of trace.page) begins).base
+    ≡ (segment_by trace.layout trace.image (count_of trace.page) begins).position
+image_known trace Fresh is = refl
+image_known trace (Torn generation) is = omega arith
+image_known trace (Kept generation rec) is =
+    let number = kept_number trace.image (header_of (slice_index trace.image 1)).2 generation rec is in
+    let even = number.0 in
+    let some = number.1 in
     omega (arith, even, some)
-image_known trace (Err fault) fits is = refl
 
-start_based : (trace : Trace) → slice_index trace.image 1 < 2 ^ 64 → RunBased trace (start trace)
-start_based trace fits =
+start_based : (trace : Trace) → RunBased trace (start trace)
+start_based trace =
     record {
-      stands = record { known = image_known trace (image_of trace.layout trace.image) fits refl; last = λ some. absurd (omega (arith, some)) };
+      stands = record { known = image_known trace (start_of trace.image) refl; last = λ some. absurd (omega (arith, some)) };
       work = tt;
       all = tt;
     }
@@ -82,5 +81,5 @@ BothHold trace run = RunHolds trace run × RunBased trace run
 pub runs_tell : RunsTell
 runs_tell trace can fits =
     let both : BothHold trace (run_of trace) =
-    run_keeps trace (BothHold trace) (λ run who h. (turn_holds trace run who h.0, turn_based trace run who h.0 h.1)) (start trace) (start_holds trace can.lawful, start_based trace fits) in
+    run_keeps trace (BothHold trace) (λ run who h. (turn_holds trace run who h.0, turn_based trace run who h.0 h.1)) (start trace) (start_holds trace can.lawful, start_based trace) in
     (both.0.daemon_holds.tells, both.1.all)

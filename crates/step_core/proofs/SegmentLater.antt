@@ -99,14 +99,12 @@ segment_read_later old new tries reading read is later shows =
       some_left = shows.some_left;
       same_tries = shows.same_tries;
       same_left = shows.same_left;
-      same_first = shows.same_first;
-      same_last = shows.same_last;
       try = try_of_later old new reading.try read.values is.known later shows.try;
     }
 
 -- a read that begins
 pub segment_read_new : (segment : SegmentRun) (tries : ℕ) → 0 < tries → ShowsSegmentRead segment tries (segment_reading tries) (started tries)
-segment_read_new segment tries some = record { some_left = some; same_tries = refl; same_left = refl; same_first = refl; same_last = refl; try = refl }
+segment_read_new segment tries some = record { some_left = some; same_tries = refl; same_left = refl; try = refl }
 
 -- ---- the words
 

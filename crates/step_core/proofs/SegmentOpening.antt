@@ -14,7 +14,7 @@ use Rattle.segment_layout.specs.declared.start.Start.TheVariants.{Fresh, Kept, T
 use Rattle.segment_layout.specs.Image.{generation_of_start}
 use Rattle.segment_layout.specs.Record.{RecordFields}
 use Rattle.writer_reopen.specs.Opening.{generation_in, move_steps, opening_steps}
-use Rattle.step_core.specs.RunSegment.{SegmentRun, header_shown, number_shown, published_at, is_old_in, is_old, start_found, opening_length, kept_step, opening_effect}
+use Rattle.step_core.specs.RunSegment.{SegmentRun, header_shown, number_shown, published_at, is_old_in, is_old, start_found, opening_length, opened_update, moved_once, opening_effect}
 use Rattle.step_core.specs.ShowsSegment.{IsSegment, ShowsSegment}
 use Rattle.step_core.specs.ShowsDaemon.{StandsIn, HasMagicIn}
 use Rattle.step_core.proofs.SegmentHeader.{told_three, number_told, number_at_rest}
@@ -60,7 +60,7 @@ load_act : (segment : SegmentRun) (generation : ℕ) (rec : RecordFields) (old :
 load_act segment generation rec true steps few = ten_loads (move_steps true generation) steps few
 load_act segment generation rec false steps few = ten_loads (move_steps false generation) steps few
 
-load_effect : (segment : SegmentRun) (steps : ℕ) → steps < 10 → kept_step steps segment ≡ segment
+load_effect : (segment : SegmentRun) (steps : ℕ) → steps < 10 → (if steps == 10 then opened_update segment else if steps == 11 then moved_once segment else segment) ≡ segment
 load_effect segment steps few =
     let begins : (steps == 10) ≡ false = grind (arith, nat_tests) in
     let ends : (steps == 11) ≡ false = grind (arith, nat_tests) in

@@ -20,12 +20,12 @@ use Rattle.segment_layout.specs.declared.image_fault.ImageFault.{ImageFault}
 use Rattle.segment_layout.specs.declared.image_fault.ImageFault.TheVariants as fault
 use Rattle.segment_layout.specs.Record.{RecordFields, KeepsBounds}
 use Rattle.segment_layout.specs.Words.{record_words, data_words, AreGoodWords, fields_of_words}
-use Rattle.segment_layout.specs.Image.{IsHeaderFor, first_fault, has_magic, reads_version, header_tests, data_tests, unless, start_at, image_of, generation_of_start}
+use Rattle.segment_layout.specs.Image.{IsHeaderFor, first_fault, has_magic, reads_version, header_tests, data_tests, unless, start_at, image_of, start_by, generation_of_start}
 use Rattle.segment_layout.specs.History.{Begun, last_store}
 use Rattle.writer_reopen.specs.Opening.{generation_in}
-use Rattle.segment_layout.proofs.Admitted.{good_from_tests}
+use Rattle.segment_layout.proofs.Admitted.{good_from_tests, image_of-start}
 use Rattle.segment_layout.proofs.Back.{data_words-fields_of_words}
-use Rattle.step_core.specs.RunSegment.{SegmentRun, start_found, header_shown, number_shown, published_at, bare_segment, kept_segment, image_publication, no_publication, segment_by, segment_start}
+use Rattle.step_core.specs.RunSegment.{SegmentRun, start_found, header_shown, number_shown, published_at, image_publication, no_publication, segment_of_image, segment_by, segment_start}
 use Rattle.step_core.specs.ShowsSegment.{HoldsWords, IsSegment, ShowsSegment}
 use Rattle.step_core.proofs.SegmentHeader.{header_tells, own_header_some}
 
@@ -200,6 +200,12 @@ good_keeps_bounds words good =
 
 -- ---- an image by what it holds
 
+abbrev bare_segment : Layout → List ℕ → (position : ℕ) → Bool → SegmentRun
+bare_segment layout image position writes = segment_of_image layout image position position writes []
+
+abbrev kept_segment : Layout → List ℕ → (position : ℕ) → Publication → SegmentRun
+kept_segment layout image position publication = segment_of_image layout image (position - 1) position false (publication ∷ [])
+
 -- a segment where no record is known
 bare_is : (layout : Layout) (image : List ℕ) (position : ℕ) (writes : Bool) → (writes ≡ false → position ≡ 0)
     → (slice_index image 1 ≡ 0) ⊎ IsHeaderFor layout (slice_index image 1) (number_shown (bare_segment layout image position writes))
@@ -283,7 +289,7 @@ header_some Two word generation is = λ none. own_header_some Two generation (sy
 header_some Three word generation (inl is) = λ none. own_header_some Two generation (sym is ∙ none)
 header_some Three word generation (inr is) = λ none. own_header_some Three generation (sym is ∙ none)
 
-start_is : (layout : Layout) (image : List ℕ) (sequence : ℕ) (start : Start) → length image ≡ 10 → Holds layout image start → IsSegment (segment_by layout image sequence (Ok start))
+start_is : (layout : Layout) (image : List ℕ) (sequence : ℕ) (start : Start) → length image ≡ 10 → Holds layout image start → IsSegment (segment_by layout image sequence start)
 start_is layout image sequence Fresh ten holds = bare_is layout image 0 false (λ calm. refl) holds (λ none. (refl, refl))
 start_is layout image sequence (Torn generation) ten holds =
     let number : generation ≡ generation_at (period_of layout) (generation / 2) + 1 = sym (half_odd layout generation holds.1.0 holds.1.1) in
@@ -302,21 +308,35 @@ start_is layout image sequence (Kept generation rec) ten holds =
     (subst (λ (r : RecordFields). KeepsBounds r.as_of r.void_after r.bound r.drift) (sym rec_is) (good_keeps_bounds image good))
     (words_hold layout image (generation / 2) (image_publication sequence generation rec) ten good rec_is)
 
-start_of : (layout : Layout) (image : List ℕ) (sequence : ℕ) (start : Start) → length image ≡ 10 → Holds layout image start → IsStartOf layout image (segment_by layout image sequence (Ok start))
-start_of layout image sequence Fresh ten holds = record { is = start_is layout image sequence Fresh ten holds; layout_is = refl; image_is = refl; unheaded = refl; none_begun = refl }
-start_of layout image sequence (Torn generation) ten holds =
+begins_of : (layout : Layout) (image : List ℕ) (sequence : ℕ) (start : Start) → length image ≡ 10 → Holds layout image start → IsStartOf layout image (segment_by layout image sequence start)
+begins_of layout image sequence Fresh ten holds = record { is = start_is layout image sequence Fresh ten holds; layout_is = refl; image_is = refl; unheaded = refl; none_begun = refl }
+begins_of layout image sequence (Torn generation) ten holds =
     record { is = start_is layout image sequence (Torn generation) ten holds; layout_is = refl; image_is = refl; unheaded = refl; none_begun = refl }
-start_of layout image sequence (Kept generation rec) ten holds =
+begins_of layout image sequence (Kept generation rec) ten holds =
     record { is = start_is layout image sequence (Kept generation rec) ten holds; layout_is = refl; image_is = refl; unheaded = refl; none_begun = refl }
+
+-- a record is kept under an even number above 0
+pub kept_number : (words : List ℕ) (number generation : ℕ) (rec : RecordFields) → start_by words number ≡ Kept generation rec → (generation % 2 ≡ 0) × (0 < generation)
+kept_number words number generation rec is = by_tests (number == 0) (number % 2 == 1) refl refl is
+  where
+    by_tests : (none odd : Bool) → (number == 0) ≡ none → (number % 2 == 1) ≡ odd
+        → (if none then Fresh else if odd then Torn number else Kept number (fields_of_words words)) ≡ Kept generation rec → (generation % 2 ≡ 0) × (0 < generation)
+    by_tests true odd zero_is odd_is e = absurd cc
+    by_tests false true zero_is odd_is e = absurd cc
+    by_tests false false zero_is odd_is e =
+        let same : number ≡ generation = cc in
+        let even : number % 2 ≡ 0 = grind (arith, nat_tests) in
+        let some : 0 < number = grind (arith, nat_tests) in
+        subst (λ (n : ℕ). (n % 2 ≡ 0) × (0 < n)) same (even, some)
 
 -- the words that begin with an image that is admitted show the segment that it begins with
 pub segment_start_shows : (layout : Layout) (image words : List ℕ) (sequence : ℕ) (start : Start) → length image ≡ 10 → slice_index image 1 < 2 ^ 64 → image_of layout image ≡ Ok start
     → length words ≡ 24 → ((word : ℕ) → word < 10 → slice_index words word ≡ slice_index image word) → ShowsSegment (segment_start layout image sequence) words
 segment_start_shows layout image words sequence start ten fits admitted wide same =
     let holds = admitted_holds layout image start fits admitted in
-    let of_image = start_of layout image sequence start ten holds.holds in
-    subst (λ (found : Result Start ImageFault). ShowsSegment (segment_by layout image sequence found) words) (sym admitted)
-    (image_shows (segment_by layout image sequence (Ok start)) words of_image.is wide
+    let of_image = begins_of layout image sequence start ten holds.holds in
+    subst (λ (found : Start). ShowsSegment (segment_by layout image sequence found) words) (sym (image_of-start layout image start admitted))
+    (image_shows (segment_by layout image sequence start) words of_image.is wide
     (λ word low. same word low ∙ ap (λ (ws : List ℕ). slice_index ws word) (sym of_image.image_is))
     (subst (λ (ws : List ℕ). (slice_index ws 0 ≡ MAGIC) ⊎ ((slice_index ws 0 ≡ 0) × (slice_index ws 1 ≡ 0))) (sym of_image.image_is) holds.magic)
     of_image.unheaded of_image.none_begun)
@@ -328,7 +348,7 @@ fresh_told layout word (inl none) = ap generation_in none
 fresh_told layout word (inr is) = header_tells layout word 0 is
 
 start_position : (layout : Layout) (image : List ℕ) (sequence : ℕ) (start : Start) → Holds layout image start
-    → (generation_in (slice_index image 1) ≡ generation_of_start start) × (generation_in (slice_index image 1) / 2 ≡ (segment_by layout image sequence (Ok start)).position)
+    → (generation_in (slice_index image 1) ≡ generation_of_start start) × (generation_in (slice_index image 1) / 2 ≡ (segment_by layout image sequence start).position)
 start_position layout image sequence Fresh holds =
     let tells = fresh_told layout (slice_index image 1) holds in
     (tells, ap (λ (n : ℕ). n / 2) tells)
@@ -343,7 +363,7 @@ start_position layout image sequence (Kept generation rec) holds =
 pub segment_start_told : (layout : Layout) (image : List ℕ) (sequence : ℕ) (start : Start) → slice_index image 1 < 2 ^ 64 → image_of layout image ≡ Ok start
     → (generation_in (slice_index image 1) ≡ generation_of_start start) × (generation_in (slice_index image 1) / 2 ≡ (segment_start layout image sequence).position)
 segment_start_told layout image sequence start fits admitted =
-    subst (λ (found : Result Start ImageFault). (generation_in (slice_index image 1) ≡ generation_of_start start) × (generation_in (slice_index image 1) / 2 ≡ (segment_by layout image sequence found).position)) (sym admitted)
+    subst (λ (found : Start). (generation_in (slice_index image 1) ≡ generation_of_start start) × (generation_in (slice_index image 1) / 2 ≡ (segment_by layout image sequence found).position)) (sym (image_of-start layout image start admitted))
     (start_position layout image sequence start (admitted_holds layout image start fits admitted).holds)
 
 -- ---- what an opening finds in it
@@ -358,7 +378,7 @@ kept_found layout image position publication generation some number =
     rw test (ap (λ (g : ℕ). Kept g (published_at (kept_segment layout image position publication) position).rec) shown
     ∙ ap (λ (p : Publication). Kept generation p.rec) (kept_newest layout image position publication position some refl))
 
-found_by : (layout : Layout) (image : List ℕ) (sequence : ℕ) (start : Start) → Holds layout image start → start_found (segment_by layout image sequence (Ok start)) ≡ start
+found_by : (layout : Layout) (image : List ℕ) (sequence : ℕ) (start : Start) → Holds layout image start → start_found (segment_by layout image sequence start) ≡ start
 found_by layout image sequence Fresh holds = refl
 found_by layout image sequence (Torn generation) holds = torn_found layout image generation holds.1.0 holds.1.1
 found_by layout image sequence (Kept generation rec) holds =
@@ -369,5 +389,5 @@ found_by layout image sequence (Kept generation rec) holds =
 -- the first opening finds what the image holds
 pub segment_start_found : (layout : Layout) (image : List ℕ) (sequence : ℕ) (start : Start) → slice_index image 1 < 2 ^ 64 → image_of layout image ≡ Ok start → start_found (segment_start layout image sequence) ≡ start
 segment_start_found layout image sequence start fits admitted =
-    subst (λ (found : Result Start ImageFault). start_found (segment_by layout image sequence found) ≡ start) (sym admitted)
+    subst (λ (found : Start). start_found (segment_by layout image sequence found) ≡ start) (sym (image_of-start layout image start admitted))
     (found_by layout image sequence start (admitted_holds layout image start fits admitted).holds)

@@ -22,7 +22,7 @@ IsAfterFrom segment before (IsWhole whole) = IsWholeFrom segment before whole.po
 IsAfterFrom segment before Unpublished = Unit {0}
 IsAfterFrom segment before (AllFailed first last) = Unit {0}
 
-fails_by : (segment : SegmentRun) (before : Option SegmentTry) (left first last : ℕ) (few : Bool) → IsAfterFrom segment before (if few then AllFailed first last else Reads (record { left = left; first = first; last = last; try = None }))
+fails_by : (segment : SegmentRun) (before : Option SegmentTry) (left first last : ℕ) (few : Bool) → IsAfterFrom segment before (if few then AllFailed first last else Reads (record { left = left; try = None }))
 fails_by segment before left first last true = tt
 fails_by segment before left first last false = tt
 

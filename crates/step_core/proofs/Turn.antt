@@ -10,7 +10,7 @@ use Rattle.generation_word.specs.declared.layout.Layout.{Layout}
 use Rattle.segment_layout.specs.declared.start.Start.{Start}
 use Rattle.segment_layout.specs.declared.start.Start.TheVariants.{Fresh, Kept, Torn}
 use Rattle.segment_layout.specs.declared.image_fault.ImageFault.{ImageFault}
-use Rattle.segment_layout.specs.Image.{image_of}
+use Rattle.segment_layout.specs.Image.{image_of, start_of}
 use Rattle.vmclock_page.specs.Host.{count_of}
 use Rattle.step_core.specs.declared.event.Event.{Event}
 use Rattle.step_core.specs.declared.marks.Place.{Place}
@@ -164,15 +164,15 @@ turn_shows trace lawful run w (Client number) shows = client_turns trace run w n
 
 -- ---- the start
 
-found_by : (found : Result Start ImageFault) → IsOk found → (begins : Start) × (found ≡ Ok begins)
+-- what an admitted image holds
+pub found_by : (found : Result Start ImageFault) → IsOk found → (begins : Start) × (found ≡ Ok begins)
 found_by (Ok begins) ok = (begins, refl)
 found_by (Err fault) ok = absurd (cc ok)
 
-layout_by : (layout : Layout) (image : List ℕ) (sequence : ℕ) (found : Result Start ImageFault) → (segment_by layout image sequence found).layout ≡ layout
-layout_by layout image sequence (Ok Fresh) = refl
-layout_by layout image sequence (Ok (Torn generation)) = refl
-layout_by layout image sequence (Ok (Kept generation rec)) = refl
-layout_by layout image sequence (Err fault) = refl
+layout_by : (layout : Layout) (image : List ℕ) (sequence : ℕ) (begins : Start) → (segment_by layout image sequence begins).layout ≡ layout
+layout_by layout image sequence Fresh = refl
+layout_by layout image sequence (Torn generation) = refl
+layout_by layout image sequence (Kept generation rec) = refl
 
 -- at the start
 pub start_shows : (trace : Trace) → IsGiven trace → Shows trace (start trace) (shared_start trace)
@@ -188,7 +188,7 @@ start_shows trace given =
       same_host = refl;
       segment = segment_start_shows trace.layout trace.image (words_start trace) (count_of trace.page) found.0 given.ten given.fits found.1 host.wide
           (λ word low. get_or_append_left trace.image (page_part trace.page ++ 1 ∷ []) 0 word (let ten = given.ten in omega (arith, ten, low)));
-      same_layout = layout_by trace.layout trace.image (count_of trace.page) (image_of trace.layout trace.image);
+      same_layout = layout_by trace.layout trace.image (count_of trace.page) (start_of trace.image);
       daemon = daemon_start_shows trace host_start found.0 given.fits found.1;
       magic = magic_at_start (words_start trace);
       clients = clients_start trace host_start (segment_start trace.layout trace.image (count_of trace.page)) trace.calls given.can.lawful.calls 1 trace.clients;

@@ -11,11 +11,12 @@ use Rattle.interval_now.specs.declared.answers.Causality.{Causality}
 use Rattle.interval_now.specs.declared.answers.Answer.{Answer}
 use Rattle.interval_now.specs.declared.answers.Answer.TheVariants as answers
 use Rattle.interval_now.specs.Interval.{interval_of}
+use Rattle.clock_gate.specs.ClockRow.{row_at}
 use Rattle.step_core.specs.declared.event.Trail.{Trail}
 use Rattle.step_core.specs.RunHost.{HostRun, clocks_at, page_shown, marker_of, sequence_of}
 use Rattle.step_core.specs.RunPage.{PageReading, PageAfter, Looks, Saw, Missed, page_reading, page_load, is_marker_next}
 use Rattle.step_core.specs.RunSegment.{SegmentRun, header_shown, number_shown, number_at, published_at}
-use Rattle.step_core.specs.RunDaemon.{row_at, marked_by}
+use Rattle.step_core.specs.RunDaemon.{marked_by}
 
 -- ---- a read of the segment
 
@@ -25,15 +26,13 @@ pub record SegmentTry : Type 0 where
   pub header : ℕ
   pub seen : List ℕ
 
--- a read in hand: the tries that have not failed, the two numbers of the last that failed, and the try in hand
+-- a read in hand: the tries that have not failed, and the try in hand
 pub record SegmentReading : Type 0 where
   pub left : ℕ
-  pub first : ℕ
-  pub last : ℕ
   pub try : Option SegmentTry
 
 abbrev pub segment_reading : ℕ → SegmentReading
-segment_reading tries = record { left = tries; first = 0; last = 0; try = None }
+segment_reading tries = record { left = tries; try = None }
 
 -- a record that was read: the number under which it stood, its position, and how many publications ended inside the read
 pub record WholeRead : Type 0 where
@@ -42,7 +41,8 @@ pub record WholeRead : Type 0 where
   pub position : ℕ
   pub inside : ℕ
 
--- what one load leaves: the read goes on, or it read a record, or nothing was published, or all its tries failed
+-- what one load leaves: the read goes on, or it read a record, or nothing was published, or all its tries failed, the last by these
+-- two numbers
 pub data SegmentAfter : Type 0 where
   Reads : (reading : SegmentReading) → SegmentAfter
   IsWhole : (read : WholeRead) → SegmentAfter
@@ -52,7 +52,7 @@ pub data SegmentAfter : Type 0 where
 abbrev pub segment_try_fails : SegmentReading → ℕ → ℕ → SegmentAfter
 segment_try_fails reading first last =
     if nat_le reading.left 1 then AllFailed first last
-    else Reads (record { left = reading.left - 1; first = first; last = last; try = None })
+    else Reads (record { left = reading.left - 1; try = None })
 
 -- the first load: an open update fails the try, and at position 0 nothing was published
 abbrev pub segment_first_load : SegmentRun → SegmentReading → SegmentAfter
@@ -80,16 +80,13 @@ segment_last_load segment reading try =
       inside = segment.position - try.from;
     })
 
--- a load of a data word gives the last store to it, or the image's word
-abbrev pub segment_try_load : SegmentRun → SegmentReading → SegmentTry → SegmentAfter
-segment_try_load segment reading try =
+-- by the try in hand: after its first load each data word is loaded, which gives the last store to it, or the image's word
+abbrev pub segment_load_by : SegmentRun → SegmentReading → Option SegmentTry → SegmentAfter
+segment_load_by segment reading None = segment_first_load segment reading
+segment_load_by segment reading (Some try) =
     if nat_lt (length try.seen) 8
     then Reads (record reading { try = Some (record try { seen = try.seen ++ last_store segment.image segment.begun (2 + length try.seen) ∷ [] }) })
     else segment_last_load segment reading try
-
-abbrev pub segment_load_by : SegmentRun → SegmentReading → Option SegmentTry → SegmentAfter
-segment_load_by segment reading None = segment_first_load segment reading
-segment_load_by segment reading (Some try) = segment_try_load segment reading try
 
 -- one load of a read
 abbrev pub segment_load : SegmentRun → SegmentReading → SegmentAfter
@@ -143,14 +140,10 @@ after_segment tries (IsWhole read) = Goes (Clocking read)
 after_segment tries Unpublished = told answers.NotInitialized
 after_segment tries (AllFailed first last) = told (answers.Busy tries first last)
 
+-- the clock is loaded: the page comes next, where there is one
 abbrev pub clock_by : Trace → (tries : ℕ) → Clocked → Option (List ℕ) → CallAfter
 clock_by trace tries clocked None = call_ends trace clocked None 0 clocked.clock_at
 clock_by trace tries clocked (Some page) = Goes (Paging clocked (page_reading tries) clocked.clock_at)
-
--- the load of the clock: the page comes next, where there is one
-abbrev pub clock_step : Trace → HostRun → (tries : ℕ) → WholeRead → CallAfter
-clock_step trace host tries read =
-    clock_by trace tries (record { read = read; row = clocks_at trace.host host.done; clock_at = host.done }) trace.page
 
 abbrev pub after_page : Trace → Clocked → (mark_at : ℕ) → PageAfter → CallAfter
 after_page trace clocked mark_at (Looks reading) = Goes (Paging clocked reading mark_at)
@@ -161,7 +154,8 @@ after_page trace clocked mark_at (Missed first last) = told (answers.PageBusy fi
 -- one step of a call
 abbrev pub call_step : Trace → HostRun → SegmentRun → (tries : ℕ) → CallStage → CallAfter
 call_step trace host segment tries (Reading reading) = after_segment tries (segment_load segment reading)
-call_step trace host segment tries (Clocking read) = clock_step trace host tries read
+call_step trace host segment tries (Clocking read) =
+    clock_by trace tries (record { read = read; row = clocks_at trace.host host.done; clock_at = host.done }) trace.page
 call_step trace host segment tries (Paging clocked reading mark_at) =
     after_page trace clocked (marked_by (is_marker_next reading.try) host.done mark_at)
     (page_load (count_of trace.page) (page_shown trace.host host) reading)

@@ -1,14 +1,13 @@
 -- The daemon in the abstract run: openings, polls and publications, step by step. A poll's record is that of looking back over
 -- the incarnation.
 use Rattle.std.specs.Prelude.{ℕ, ◌+◌, ◌-◌, Bool, false, ◌==◌, if◌then◌else◌, List, [], ◌∷◌, slice_get, slice_index_or, Option, Some, None, is_some}
-use Rattle.clock_gate.specs.declared.clock_row.ClockRow.{ClockRow}
-use Rattle.clock_gate.specs.declared.clock_row.Reading.{Reading}
+use Rattle.clock_gate.specs.ClockRow.{reading_at}
 use Rattle.clock_gate.specs.declared.trace.PollRow.{PollRow}
 use Rattle.clock_gate.specs.declared.trace.Trace.{Trace}
 use Rattle.vmclock_page.specs.Host.{count_of}
 use Rattle.segment_layout.specs.declared.publication.Publication.{Publication}
 use Rattle.segment_layout.specs.declared.start.Start.{Start}
-use Rattle.segment_layout.specs.declared.start.Start.TheVariants.{Fresh, Kept, Torn}
+use Rattle.segment_layout.specs.declared.start.Start.TheVariants.{Kept}
 use Rattle.status_machine.specs.declared.base.Base.{Base}
 use Rattle.status_machine.specs.declared.poll.Poll.{Poll}
 use Rattle.status_machine.specs.Incarnation.{Incarnation, base_at, record_at}
@@ -72,6 +71,10 @@ no_poll = record { reply = []; stop = None }
 abbrev pub poll_row : Trace → DaemonRun → PollRow
 poll_row trace daemon = slice_index_or trace.polls (daemon.polled - 1) no_poll
 
+-- the poll in hand goes on to this, and nothing is told
+abbrev pub goes_on : SegmentRun → DaemonRun → Work → DaemonTurn
+goes_on segment daemon work = record { segment = segment; daemon = record daemon { work = work }; events = [] }
+
 -- ---- an opening
 
 -- the incarnation that an opening begins
@@ -81,24 +84,16 @@ life_from trace start base =
 
 -- a record was moved: the opening's header was old, and it found a record
 abbrev pub is_move : (old : Bool) → Start → Bool
-is_move old Fresh = false
-is_move old (Torn generation) = false
 is_move old (Kept generation rec) = old
+is_move old other = false
 
-abbrev pub base_after : (moved : Bool) → ℕ → ℕ
-base_after moved base = if moved then 0 else base
-
-abbrev pub opening_events : (moved : Bool) → ℕ → Start → SegmentRun → List Event
-opening_events moved poll start segment =
-    if moved then Opened poll start ∷ Moved poll segment.position (number_shown segment) ∷ [] else Opened poll start ∷ []
-
--- the opening has ended: the daemon lives, and its poll comes next
+-- the opening has ended: the daemon lives, and its poll comes next; a record that was moved has no base of a poll
 abbrev pub opening_ends : Trace → SegmentRun → DaemonRun → Start → (moved : Bool) → DaemonTurn
 opening_ends trace segment daemon start moved =
     record {
       segment = segment;
-      daemon = record daemon { life = Some (life_from trace start (base_after moved daemon.base)); work = Asking; base = base_after moved daemon.base };
-      events = opening_events moved daemon.polled start segment;
+      daemon = record daemon { life = Some (life_from trace start (if moved then 0 else daemon.base)); work = Asking; base = if moved then 0 else daemon.base };
+      events = if moved then Opened daemon.polled start ∷ Moved daemon.polled segment.position (number_shown segment) ∷ [] else Opened daemon.polled start ∷ [];
     }
 
 -- one step of an opening that has made so many
@@ -106,19 +101,9 @@ abbrev pub opening_step : Trace → SegmentRun → DaemonRun → Start → (old 
 opening_step trace segment daemon start old steps =
     if steps + 1 == opening_length old start
     then opening_ends trace (opening_effect start steps segment) daemon start (is_move old start)
-    else record { segment = opening_effect start steps segment; daemon = record daemon { work = Opening start old (steps + 1) }; events = [] }
+    else goes_on (opening_effect start steps segment) daemon (Opening start old (steps + 1))
 
 -- ---- a poll
-
--- the reading of a clock row
-abbrev pub no_row : ClockRow
-no_row = record { mono = 0; real = 0; truth = None }
-
-abbrev pub row_at : List ClockRow → ℕ → ClockRow
-row_at clock row = slice_index_or clock (row - 1) no_row
-
-abbrev pub reading_at : List ClockRow → ℕ → Reading
-reading_at clock row = record { row = row; mono = (row_at clock row).mono; real = (row_at clock row).real }
 
 -- what the daemon has of the poll in hand when its reply is taken
 abbrev pub poll_of : Trace → DaemonRun → Asked → Poll
@@ -170,33 +155,25 @@ abbrev pub after_stores : Trace → SegmentRun → DaemonRun → Storing → Dae
 after_stores trace segment daemon storing =
     if storing.stores == 10 then publication_ends trace segment daemon storing
     else if is_stop (poll_row trace daemon).stop storing.stores then stops trace segment daemon storing.stores (Stopped daemon.polled storing.stores ∷ [])
-    else record { segment = segment; daemon = record daemon { work = Writing storing }; events = [] }
+    else goes_on segment daemon (Writing storing)
 
 -- one store
 abbrev pub store_step : Trace → SegmentRun → DaemonRun → Storing → DaemonTurn
 store_step trace segment daemon storing =
     after_stores trace (stored segment storing.publication storing.stores) daemon (record storing { stores = storing.stores + 1 })
 
--- the reply is taken: the poll joins the incarnation
+-- the reply is taken: the poll joins the incarnation, and its publication begins
 abbrev pub taken : Trace → SegmentRun → DaemonRun → Asked → Poll → (replied replied_at : ℕ) → Option Life → DaemonTurn
 taken trace segment daemon asked poll replied replied_at None = record { segment = segment; daemon = daemon; events = [] }
 taken trace segment daemon asked poll replied replied_at (Some life) =
     after_stores trace segment (record daemon { life = Some (record life { past = poll ∷ life.past }) })
     (record { publication = publication_of segment life poll asked replied; stores = 0; marked_at = asked.marked_at; replied_at = replied_at })
 
--- the second load of the clock
-abbrev pub take_step : Trace → HostRun → SegmentRun → DaemonRun → Asked → DaemonTurn
-take_step trace host segment daemon asked =
-    taken trace segment daemon asked (poll_of trace daemon asked) (clocks_at trace.host host.done) host.done daemon.life
-
-abbrev pub works : SegmentRun → DaemonRun → Work → DaemonTurn
-works segment daemon work = record { segment = segment; daemon = record daemon { work = work }; events = [] }
-
 -- a load of the page, with the host position at the last load of a marker
 abbrev pub look_by : Trace → SegmentRun → DaemonRun → (row marked_at : ℕ) → PageAfter → DaemonTurn
-look_by trace segment daemon row marked_at (Looks reading) = works segment daemon (Looking row reading marked_at)
+look_by trace segment daemon row marked_at (Looks reading) = goes_on segment daemon (Looking row reading marked_at)
 look_by trace segment daemon row marked_at (Saw page) =
-    works segment daemon
+    goes_on segment daemon
     (Taking (record {
       row = row;
       marker = Some (marker_of trace.page trace.host page);
@@ -209,16 +186,11 @@ look_by trace segment daemon row marked_at (Missed first last) =
 abbrev pub marked_by : (is_marker : Bool) → (now before : ℕ) → ℕ
 marked_by is_marker now before = if is_marker then now else before
 
-abbrev pub look_step : Trace → HostRun → SegmentRun → DaemonRun → ℕ → PageReading → ℕ → DaemonTurn
-look_step trace host segment daemon row reading marked_at =
-    look_by trace segment daemon row (marked_by (is_marker_next reading.try) host.done marked_at)
-    (page_load (count_of trace.page) (page_shown trace.host host) reading)
-
 -- the first load of the clock: the page comes next, where there is one, and until a marker is loaded this position stands for it
 abbrev pub ask_by : Trace → SegmentRun → DaemonRun → (row done : ℕ) → Option (List ℕ) → DaemonTurn
 ask_by trace segment daemon row done None =
-    works segment daemon (Taking (record { row = row; marker = None; sequence = 0; marked_at = done }))
-ask_by trace segment daemon row done (Some page) = works segment daemon (Looking row (page_reading trace.tries) done)
+    goes_on segment daemon (Taking (record { row = row; marker = None; sequence = 0; marked_at = done }))
+ask_by trace segment daemon row done (Some page) = goes_on segment daemon (Looking row (page_reading trace.tries) done)
 
 abbrev pub ask_step : Trace → HostRun → SegmentRun → DaemonRun → DaemonTurn
 ask_step trace host segment daemon = ask_by trace segment daemon (clocks_at trace.host host.done) host.done trace.page
@@ -239,8 +211,11 @@ abbrev pub daemon_turn_by : Trace → HostRun → SegmentRun → DaemonRun → W
 daemon_turn_by trace host segment daemon Resting = next_poll trace host segment daemon (slice_get trace.polls daemon.polled)
 daemon_turn_by trace host segment daemon (Opening start old steps) = opening_step trace segment daemon start old steps
 daemon_turn_by trace host segment daemon Asking = ask_step trace host segment daemon
-daemon_turn_by trace host segment daemon (Looking row reading marked_at) = look_step trace host segment daemon row reading marked_at
-daemon_turn_by trace host segment daemon (Taking asked) = take_step trace host segment daemon asked
+daemon_turn_by trace host segment daemon (Looking row reading marked_at) =
+    look_by trace segment daemon row (marked_by (is_marker_next reading.try) host.done marked_at)
+    (page_load (count_of trace.page) (page_shown trace.host host) reading)
+daemon_turn_by trace host segment daemon (Taking asked) =
+    taken trace segment daemon asked (poll_of trace daemon asked) (clocks_at trace.host host.done) host.done daemon.life
 daemon_turn_by trace host segment daemon (Writing storing) = store_step trace segment daemon storing
 
 -- one turn of the daemon

@@ -1,17 +1,16 @@
 -- The segment in the abstract run: a position that never wraps, whether an update is open, and whole records.
-use Rattle.std.specs.Prelude.{ℕ, pos, ◌+◌, ◌-◌, ◌/◌, Bool, true, false, not, ◌&&◌, ◌==◌, if◌then◌else◌, List, [], ◌∷◌, ◌++◌, slice_index, slice_index_or, Result, Ok, Err}
-use Rattle.clock_gate.specs.declared.clock_status.ClockStatus.TheVariants.{Unknown}
+use Rattle.std.specs.Prelude.{ℕ, ◌+◌, ◌-◌, ◌/◌, Bool, true, false, not, ◌&&◌, ◌==◌, if◌then◌else◌, List, [], ◌∷◌, ◌++◌, slice_index, slice_index_or}
 use Rattle.generation_word.specs.declared.layout.Layout.{Layout}
 use Rattle.generation_word.specs.declared.layout.Layout.TheVariants.{Two, Three}
 use Rattle.generation_word.specs.Layout.{period_of}
 use Rattle.generation_word.specs.Numbering.{generation_at}
 use Rattle.generation_word.specs.Header.{header_of}
-use Rattle.segment_layout.specs.declared.image_fault.ImageFault.{ImageFault}
 use Rattle.segment_layout.specs.declared.publication.Publication.{Publication}
 use Rattle.segment_layout.specs.declared.start.Start.{Start}
 use Rattle.segment_layout.specs.declared.start.Start.TheVariants.{Fresh, Kept, Torn}
-use Rattle.segment_layout.specs.Image.{image_of}
+use Rattle.segment_layout.specs.Image.{start_of}
 use Rattle.segment_layout.specs.Record.{RecordFields}
+use Rattle.segment_layout.specs.Words.{fields_of_words}
 use Rattle.segment_layout.specs.History.{History, AbstractSegment, Begun, number_of, header_seen, start_seen}
 
 -- the words that stood at first; the position before the first entry of the history; the position; whether an update is
@@ -42,18 +41,14 @@ header_shown segment = if segment.is_headed then header_seen segment.layout (abs
 abbrev pub number_at : SegmentRun → ℕ → ℕ
 number_at segment position = generation_at (period_of segment.layout) position
 
--- what stands where nothing was published
+-- the image's record as a publication: of poll 0, at the first row of the clock and on the start page
+abbrev pub image_publication : (sequence generation : ℕ) → RecordFields → Publication
+image_publication sequence generation rec =
+    record { poll = 0; generation = generation; asked = 1; sequence = sequence; replied = 1; base = 0; rec = rec }
+
+-- what stands where nothing was published: zeros
 abbrev pub no_publication : Publication
-no_publication =
-    record {
-      poll = 0;
-      generation = 0;
-      asked = 0;
-      sequence = 0;
-      replied = 0;
-      base = 0;
-      rec = record { as_of = pos 0; void_after = pos 0; bound = pos 0; marker = 0; drift = 0; status = Unknown; support = false };
-    }
+no_publication = image_publication 0 0 (fields_of_words [])
 
 -- the publication at a position
 abbrev pub published_at : SegmentRun → ℕ → Publication
@@ -61,38 +56,21 @@ published_at segment position = slice_index_or segment.history (position - segme
 
 -- ---- how it begins
 
--- the image's record as a publication: of poll 0, at the first row of the clock and on the start page
-abbrev pub image_publication : ℕ → ℕ → RecordFields → Publication
-image_publication sequence generation rec =
-    record { poll = 0; generation = generation; asked = 1; sequence = sequence; replied = 1; base = 0; rec = rec }
+-- a segment of which nothing was stored yet
+abbrev pub segment_of_image : Layout → List ℕ → (base position : ℕ) → Bool → History → SegmentRun
+segment_of_image layout image base position is_writing history =
+    record { layout = layout; image = image; base = base; position = position; is_writing = is_writing; is_headed = false; history = history; begun = [] }
 
-abbrev pub bare_segment : Layout → List ℕ → ℕ → Bool → SegmentRun
-bare_segment layout image position is_writing =
-    record { layout = layout; image = image; base = position; position = position; is_writing = is_writing; is_headed = false; history = []; begun = [] }
-
-abbrev pub kept_segment : Layout → List ℕ → ℕ → Publication → SegmentRun
-kept_segment layout image position publication =
-    record {
-      layout = layout;
-      image = image;
-      base = position - 1;
-      position = position;
-      is_writing = false;
-      is_headed = false;
-      history = publication ∷ [];
-      begun = [];
-    }
-
-abbrev pub segment_by : Layout → List ℕ → ℕ → Result Start ImageFault → SegmentRun
-segment_by layout image sequence (Ok Fresh) = bare_segment layout image 0 false
-segment_by layout image sequence (Ok (Torn generation)) = bare_segment layout image (generation / 2) true
-segment_by layout image sequence (Ok (Kept generation rec)) =
-    kept_segment layout image (generation / 2) (image_publication sequence generation rec)
-segment_by layout image sequence (Err fault) = bare_segment layout image 0 false
+-- two numbers make a position; a record that is kept stands at it, and nothing is known of what was published before
+abbrev pub segment_by : Layout → List ℕ → (sequence : ℕ) → Start → SegmentRun
+segment_by layout image sequence Fresh = segment_of_image layout image 0 0 false []
+segment_by layout image sequence (Torn generation) = segment_of_image layout image (generation / 2) (generation / 2) true []
+segment_by layout image sequence (Kept generation rec) =
+    segment_of_image layout image (generation / 2 - 1) (generation / 2) false (image_publication sequence generation rec ∷ [])
 
 -- the segment that an image begins with, where the start page has this sequence count
-abbrev pub segment_start : Layout → List ℕ → ℕ → SegmentRun
-segment_start layout image sequence = segment_by layout image sequence (image_of layout image)
+abbrev pub segment_start : Layout → List ℕ → (sequence : ℕ) → SegmentRun
+segment_start layout image sequence = segment_by layout image sequence (start_of image)
 
 -- ---- an opening
 
@@ -132,15 +110,12 @@ ended_update segment publication =
 abbrev pub moved_once : SegmentRun → SegmentRun
 moved_once segment = ended_update segment (published_at segment segment.position)
 
-abbrev pub kept_step : (steps : ℕ) → SegmentRun → SegmentRun
-kept_step steps segment =
-    if steps == 10 then opened_update segment else if steps == 11 then moved_once segment else segment
-
 -- the segment after the step of an opening that comes after so many steps of it
 abbrev pub opening_effect : Start → (steps : ℕ) → SegmentRun → SegmentRun
 opening_effect Fresh steps segment = if steps == 3 then headed segment else segment
 opening_effect (Torn generation) steps segment = if steps == 2 then headed segment else segment
-opening_effect (Kept generation rec) steps segment = kept_step steps segment
+opening_effect (Kept generation rec) steps segment =
+    if steps == 10 then opened_update segment else if steps == 11 then moved_once segment else segment
 
 -- ---- a publication
 
@@ -150,7 +125,7 @@ one_store_more (begun ∷ older) = record begun { stores = begun.stores + 1 } �
 
 abbrev pub stored_by : SegmentRun → Publication → (stores : ℕ) → SegmentRun
 stored_by segment publication stores =
-    if stores == 9 then record segment { position = segment.position + 1; is_writing = false; history = segment.history ++ publication ∷ []; begun = one_store_more segment.begun }
+    if stores == 9 then record (ended_update segment publication) { begun = one_store_more segment.begun }
     else record segment { begun = one_store_more segment.begun }
 
 -- the segment after the store of a publication that comes after so many stores of it: the first opens an update, the last
@@ -158,5 +133,5 @@ stored_by segment publication stores =
 abbrev pub stored : SegmentRun → Publication → (stores : ℕ) → SegmentRun
 stored segment publication stores =
     if stores == 0
-    then record segment { is_headed = true; is_writing = true; begun = record { rec = publication.rec; stores = 1 } ∷ segment.begun }
+    then record (opened_update segment) { begun = record { rec = publication.rec; stores = 1 } ∷ segment.begun }
     else stored_by segment publication stores

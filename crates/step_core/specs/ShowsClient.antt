@@ -47,9 +47,8 @@ pub record ShowsCall (trace : Trace) (host : HostRun) (segment : SegmentRun) (ru
 
 abbrev pub ShowsCallOf : Trace → HostRun → SegmentRun → Option CallRun → Option Call → Marks → Type 0
 ShowsCallOf trace host segment None None marks = Unit {0}
-ShowsCallOf trace host segment None (Some call) marks = ⊥
-ShowsCallOf trace host segment (Some run) None marks = ⊥
 ShowsCallOf trace host segment (Some run) (Some call) marks = ShowsCall trace host segment run call marks
+ShowsCallOf trace host segment run call marks = ⊥
 
 -- the tries of each call that is left
 abbrev pub AreTries : List ℕ → Type 0
@@ -67,7 +66,6 @@ pub record ShowsClient (trace : Trace) (host : HostRun) (segment : SegmentRun) (
 -- the same of each client, in order, the first with this number
 abbrev pub ShowsClients : Trace → HostRun → SegmentRun → (number : ℕ) → List ClientRun → List ClientState → Type 0
 ShowsClients trace host segment number [] [] = Unit {0}
-ShowsClients trace host segment number [] (client ∷ clients) = ⊥
-ShowsClients trace host segment number (run ∷ runs) [] = ⊥
 ShowsClients trace host segment number (run ∷ runs) (client ∷ clients) =
     ShowsClient trace host segment number run client × ShowsClients trace host segment (suc number) runs clients
+ShowsClients trace host segment number runs clients = ⊥

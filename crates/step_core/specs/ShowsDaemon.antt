@@ -45,9 +45,8 @@ IsAlive trace (Some life) daemon = IsWhere trace life daemon
 -- between two polls: stopped, or where its incarnation has led, with the number that word 1 shows
 abbrev pub ShowsResumed : Trace → SegmentRun → Option Life → Option Resumed → Type 0
 ShowsResumed trace segment None None = Unit {0}
-ShowsResumed trace segment None (Some resumed) = ⊥
-ShowsResumed trace segment (Some life) None = ⊥
 ShowsResumed trace segment (Some life) (Some resumed) = IsWhere trace life resumed.daemon × (resumed.generation ≡ number_shown segment)
+ShowsResumed trace segment life resumed = ⊥
 
 -- what the poll in hand was given
 pub record IsJob (trace : Trace) (daemon : DaemonRun) (job : Job) : Type 0 where
@@ -74,8 +73,7 @@ StandsIn segment (Kept generation rec) old steps =
 -- that it may be 0
 abbrev pub HasMagicIn : Start → (steps : ℕ) → List ℕ → Type 0
 HasMagicIn Fresh steps words = 2 < steps → slice_index words 0 ≡ MAGIC
-HasMagicIn (Torn generation) steps words = slice_index words 0 ≡ MAGIC
-HasMagicIn (Kept generation rec) steps words = slice_index words 0 ≡ MAGIC
+HasMagicIn start steps words = slice_index words 0 ≡ MAGIC
 
 -- an opening that loaded this header
 pub record ShowsOpening (trace : Trace) (segment : SegmentRun) (start : Start) (old : Bool) (steps : ℕ) (opener : OpenerState) : Type 0 where
@@ -156,12 +154,9 @@ ShowsWork trace host segment run work hand = ⊥
 
 -- between two polls the daemon stands by itself; a poll that is skipped leaves it, and an opening finds it stopped
 abbrev pub ShowsIdle : Trace → SegmentRun → Work → Option Life → Option Resumed → Type 0
-ShowsIdle trace segment Resting life resumed = ShowsResumed trace segment life resumed
 ShowsIdle trace segment (Opening start old steps) life resumed = Unit {0}
-ShowsIdle trace segment Asking life resumed = ShowsResumed trace segment life resumed
-ShowsIdle trace segment (Looking row reading marked_at) life resumed = ShowsResumed trace segment life resumed
-ShowsIdle trace segment (Taking asked) life resumed = ShowsResumed trace segment life resumed
 ShowsIdle trace segment (Writing storing) life resumed = Unit {0}
+ShowsIdle trace segment work life resumed = ShowsResumed trace segment life resumed
 
 pub record ShowsDaemon (trace : Trace) (host : HostRun) (segment : SegmentRun) (run : DaemonRun) (daemon : DaemonState) : Type 0 where
   pub same_polled : daemon.polled ≡ run.polled

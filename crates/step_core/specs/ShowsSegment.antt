@@ -68,6 +68,4 @@ pub record ShowsSegmentRead (segment : SegmentRun) (tries : ℕ) (reading : Segm
   pub some_left : 0 < reading.left
   pub same_tries : read.tries ≡ tries
   pub same_left : read.left ≡ reading.left
-  pub same_first : read.first ≡ reading.first
-  pub same_last : read.last ≡ reading.last
   pub try : IsSegmentTryOf segment reading.try read.values
