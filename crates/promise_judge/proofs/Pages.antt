@@ -22,7 +22,7 @@ marker_after-next start (Clock n ∷ host) (suc m) lt = marker_after-next start 
 marker_after-next start (Page w ∷ host) (suc m) lt = marker_after-next (Some (marker_in w)) host m (omega arith)
 marker_after-next start (Disrupt ∷ host) (suc m) lt = marker_after-next start host m (omega arith)
 
-unchanged : (before : Option ℕ) (row : HostRow) → changes before row ≡ false → marker_next before row ≡ before
+pub unchanged : (before : Option ℕ) (row : HostRow) → changes before row ≡ false → marker_next before row ≡ before
 unchanged before (Clock n) calm = refl
 unchanged before Disrupt calm = refl
 unchanged None (Page w) calm = absurd (true≢false calm)
@@ -40,7 +40,7 @@ or_left : (a b : Bool) → a ≡ true → (a || b) ≡ true
 or_left a b is = rw is refl
 
 -- a marker that stood after the first rows is an earlier one
-stood_before : (start : Option ℕ) (host : List HostRow) (i j : ℕ) (words : List ℕ) → i ≤ j → marker_after start (take i host) ≡ Some (marker_in words) →
+pub stood_before : (start : Option ℕ) (host : List HostRow) (i j : ℕ) (words : List ℕ) → i ≤ j → marker_after start (take i host) ≡ Some (marker_in words) →
     brings_back start (take j host) (Page words) ≡ true
 stood_before start host zero j words le is =
     or_left (is_that (marker_in words) start) (list_any (λ other. nat_eq (marker_in words) other) (markers_of (take j host)))

@@ -94,7 +94,7 @@ from_at (Clock m ∷ host) at n =
     ]
 
 -- one that it hasn't come to stands after them
-to_come_after : (host : List HostRow) (at k h n : ℕ) → Numbered k host → h ≤ length host → k + clocks (take h host) ≤ n → at + h ≤ position_from at host n
+pub to_come_after : (host : List HostRow) (at k h n : ℕ) → Numbered k host → h ≤ length host → k + clocks (take h host) ≤ n → at + h ≤ position_from at host n
 to_come_after host at k zero n num le low = let here = from_at host at n in omega arith
 to_come_after [] at k (suc h) n num le low = absurd (omega arith)
 to_come_after (Page w ∷ host) at k (suc h) n num le low = let further = to_come_after host (at + 1) k h n num (omega arith) low in omega arith
