@@ -23,5 +23,6 @@ pub mod ShowsClient
 pub mod ShowsDaemon
 pub mod Shows
 pub mod SharedReady
+pub mod WordsShow
 pub mod RunFacts
 pub mod RunEnds
