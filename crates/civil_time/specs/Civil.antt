@@ -19,6 +19,10 @@ pub record IsDateTimeOf (n : ℤ) (shown : DateTime) : Type 0 where
   pub day : epoch_day shown.date ≡ int_div_euclid n day_nanos
   pub rest : pos (time_nanos shown.time) ≡ int_rem_euclid n day_nanos
 
+-- no instant has two
+abbrev pub InstantsHaveOneDate : Type 0
+InstantsHaveOneDate = (n : ℤ) (one other : DateTime) → IsDateTimeOf n one → IsDateTimeOf n other → one ≡ other
+
 -- `2023-11-14T22:13:22.499630858Z`: the date, the letter T, the time with nine digits, and the letter Z
 abbrev pub utc_text : DateTime → List ℕ
 utc_text shown = datetime_text false 84 (Some 9) shown ++ 90 ∷ []

@@ -48,6 +48,9 @@ returns-clause-refined c bytes trace read =
 pub returns-clause-dated : goal.returns-clause-dated
 returns-clause-dated c bytes trace read = run_dated trace (run_of trace).events refl (c.dated_laws.ensures.whole trace (c.read_runs_laws.ensures.traces bytes trace read))
 
+pub returns-clause-one_date : goal.returns-clause-one_date
+returns-clause-one_date c = c.civil_laws.ensures.one
+
 pub returns-clause-days : goal.returns-clause-days
 returns-clause-days c seed polls low high =
     record { held = c.day_runs_hold.ensures.whole seed polls low high; short = c.text_laws.ensures.fit seed polls high; read = c.text_laws.ensures.days seed polls low high }
