@@ -13,18 +13,18 @@ use Rattle.interval_now.specs.declared.answers.Answer.TheVariants as answers
 use Rattle.interval_now.specs.declared.answers.Timed.{Timed}
 use Rattle.interval_now.specs.Interval.{interval_of}
 use Rattle.vmclock_page.specs.Host.{count_of}
+use Rattle.clock_gate.specs.ClockRow.{row_at}
 use Rattle.step_core.specs.declared.event.Event.{Event}
 use Rattle.step_core.specs.declared.event.Trail.{Trail}
 use Rattle.step_core.specs.Run.{client_start}
 use Rattle.step_core.specs.RunHost.{HostRun, clocks_at, pages_at, page_shown, marker_of, sequence_of}
 use Rattle.step_core.specs.RunPage.{PageTry, PageAfter, Looks, Saw, Missed, page_load, is_marker_next}
 use Rattle.step_core.specs.RunSegment.{SegmentRun, published_at}
-use Rattle.step_core.specs.RunDaemon.{row_at, marked_by}
+use Rattle.step_core.specs.RunDaemon.{marked_by}
 use Rattle.step_core.specs.RunClient as run_client
 use Rattle.step_core.specs.RunClient.{SegmentAfter, Reads, IsWhole, Unpublished, AllFailed, segment_load, segment_reading, WholeRead, Clocked, CallStage, Reading, Clocking, Paging, Answered, CallAfter, Goes, Answers, CallRun, ClientRun, ClientTurn}
 use Rattle.segment_layout.specs.Record.{RecordFields}
-use Rattle.step_core.specs.RunLaws.{IsTimeOf, IsAnswer}
-use Rattle.step_core.proofs.AnswerOf.{IsReadOf, IsClockedOf, StandsIn, PageFits, FitsIn, LeavesOf, step_of}
+use Rattle.step_core.proofs.AnswerOf.{IsTimeOf, IsAnswer, IsReadOf, IsClockedOf, StandsIn, PageFits, FitsIn, LeavesOf, step_of}
 use Rattle.step_core.proofs.RunFactsClient.{CallFits, StageFits}
 use Rattle.run_promises.specs.Told.{marker_at, AnswerTells, IsByPublication}
 use Rattle.run_promises.proofs.PageReads.{LookFits, LookAfter, look_later, look_fits}

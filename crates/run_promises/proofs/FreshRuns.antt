@@ -2,7 +2,7 @@
 use Rattle.std.proofs.Common.{◌≡◌, ℕ, ◌≤◌, ◌<◌, Bool, true, false, List, [], ◌∷◌, length, refl, arith}
 use Rattle.std.specs.Prelude.{◌||◌}
 use Rattle.clock_gate.specs.declared.trace.Trace.{Trace}
-use Rattle.segment_layout.specs.Image.{image_of}
+use Rattle.segment_layout.specs.Image.{start_of}
 use Rattle.step_core.specs.declared.event.Event.{Event}
 use Rattle.step_core.specs.declared.event.Event.TheVariants.{Opened, Moved, Published, Skipped, Stopped, Answered}
 use Rattle.step_core.specs.RunFacts.{is_moved_to, is_kept_at, is_image_at, made_by, AllEarlier, AllTell}
@@ -23,8 +23,8 @@ module _ (trace : Trace) where
   or_false false b first second = second
 
   -- no position has the image's record
-  pub none_moved : (past : List Event) (n : ℕ) → IsFresh trace → AllMarked trace past → is_kept_at n (image_of trace.layout trace.image) ≡ false → is_image_at trace past n ≡ false
-  none_moved past n fresh marked kept = or_false (is_moved_to n past) (is_kept_at n (image_of trace.layout trace.image)) (unmoved past n fresh marked) kept
+  pub none_moved : (past : List Event) (n : ℕ) → IsFresh trace → AllMarked trace past → is_kept_at n (start_of trace.image) ≡ false → is_image_at trace past n ≡ false
+  none_moved past n fresh marked kept = or_false (is_moved_to n past) (is_kept_at n (start_of trace.image)) (unmoved past n fresh marked) kept
 
   -- each earlier position was made by an earlier poll
   made_below : (past : List Event) (position poll replied_at : ℕ) → 0 < poll → IsFresh trace → AllTell trace past → AllMarked trace past → AllEarlier position poll replied_at past → made_by past < poll

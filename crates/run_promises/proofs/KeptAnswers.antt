@@ -1,6 +1,8 @@
 -- Each answer that is looked at can be judged, and contains the truth where it has no fault.
 use Rattle.run_promises.proofs.FreshRuns.{none_moved, made_few}
-use Rattle.segment_layout.specs.Image.{image_of as segment_image_of}
+use Rattle.segment_layout.specs.declared.start.Start.TheVariants.{Fresh}
+use Rattle.segment_layout.specs.Image.{start_of}
+use Rattle.segment_layout.proofs.Admitted.{image_of-start}
 use Rattle.std.proofs.Common.{◌≡◌, ℕ, ℤ, ◌≤◌, ◌<◌, Bool, true, false, List, [], ◌∷◌, Option, Some, None, refl, ap, sym, ◌∙◌, subst, arith, ◌+◌, ◌-◌, ◌*◌}
 use Rattle.std.specs.Prelude.{◌==◌, ◌-ℤ◌, ◌+ℤ◌, ◌≤ℤ◌, nat_le, pos, reverse, if◌then◌else◌, unsigned_abs}
 use Rattle.std.proofs.lemmas.Bool.Decides.{nat_tests}
@@ -63,7 +65,7 @@ counted trace claim none =
 
 -- what the events before an answer tell, and the answer itself
 pub record Tells (trace : Trace) (past : List Event) (time : Timed) (trail : Trail) : Type 0 where
-  pub answer : AnsweredTells trace past (answers.Time time) trail
+  pub answer : AnsweredTells trace past time trail
   pub all : AllTell trace past
   pub based : AllBased trace past
   pub marked : AllMarked trace past
@@ -189,8 +191,8 @@ module _ (trace : Trace) (can : CanRun trace) (past : List Event) (time : Timed)
   no_image : IsFresh trace → is_image_at trace past trail.position ≡ false
   no_image fresh = none_moved trace past trail.position fresh tells.marked (kept_none trail.position fresh)
     where
-      kept_none : (n : ℕ) → IsFresh trace → is_kept_at n (segment_image_of trace.layout trace.image) ≡ false
-      kept_none n fresh = ap (is_kept_at n) fresh
+      kept_none : (n : ℕ) → IsFresh trace → is_kept_at n (start_of trace.image) ≡ false
+      kept_none n fresh = ap (is_kept_at n) (image_of-start trace.layout trace.image Fresh fresh)
 
   told_or : (told : Option EndedAs) (is_image : Bool) → is_image ≡ false → StoodBy is_image trail.clock_at told → (one : EndedAs) × (told ≡ Some one)
   told_or None is_image none stood = absurd (cc (none, stood))

@@ -62,7 +62,7 @@ module _ (begins : ℕ) (rows : List HostRow) (host : HostRun) (reading : PageRe
   shown = page_shown rows host
 
   fails_by : (marked_at left first last : ℕ) (few : Bool) → pages_at rows marked_at ≤ pages_at rows host.done
-      → LookAfter rows host marked_at (if few then Missed first last else Looks (record { left = left; first = first; last = last; try = None }))
+      → LookAfter rows host marked_at (if few then Missed first last else Looks (record { left = left; try = None }))
   fails_by marked_at left first last true within = tt
   fails_by marked_at left first last false within = record { within = within; fits = tt }
 

@@ -10,11 +10,12 @@ use Rattle.clock_gate.specs.declared.trace.HostRow.TheVariants.{Clock, Page, Dis
 use Rattle.clock_gate.specs.declared.trace.Party.{Party}
 use Rattle.clock_gate.specs.declared.trace.Party.TheVariants.{Host, Daemon, Client}
 use Rattle.clock_gate.specs.declared.trace.Trace.{Trace}
-use Rattle.segment_layout.specs.declared.image_fault.ImageFault.{ImageFault}
 use Rattle.segment_layout.specs.declared.publication.Publication.{Publication}
 use Rattle.segment_layout.specs.declared.start.Start.{Start}
 use Rattle.segment_layout.specs.declared.start.Start.TheVariants.{Fresh, Kept, Torn}
-use Rattle.segment_layout.specs.Image.{image_of}
+use Rattle.generation_word.specs.Header.{header_of}
+use Rattle.segment_layout.specs.Image.{start_of}
+use Rattle.segment_layout.proofs.Admitted.{image_of-start}
 use Rattle.vmclock_page.specs.Host.{count_of}
 use Rattle.step_core.specs.declared.event.Event.{Event}
 use Rattle.step_core.specs.declared.event.Event.TheVariants as events
@@ -28,7 +29,7 @@ use Rattle.step_core.specs.SharedReady.{CanRun}
 use Rattle.step_core.proofs.RunFactsClient.{CallFits}
 use Rattle.step_core.proofs.RunFactsHold.{AllFit, RunHolds, turn_holds, start_holds}
 use Rattle.step_core.proofs.RunFactsBaseTurn.{Based, based_same, daemon_based}
-use Rattle.step_core.proofs.SegmentStart.{Holds, admitted_holds}
+use Rattle.step_core.proofs.SegmentStart.{kept_number}
 use Rattle.run_promises.proofs.PageReads.{turn_pages, look_later}
 use Rattle.run_promises.proofs.Segments.{entry_at}
 use Rattle.run_promises.proofs.DaemonStates.{WorkMarked, DaemonMarked, daemon_same}
@@ -179,25 +180,22 @@ turn_based trace run (Client (suc place)) holds h = turn_in_based trace run (suc
 -- ---- the start
 
 module _ (trace : Trace) where
-  abbrev begun : Result Start ImageFault → SegmentRun
+  abbrev begun : Start → SegmentRun
   begun found = segment_by trace.layout trace.image (count_of trace.page) found
 
-  begun_layout : (found : Result Start ImageFault) → (begun found).layout ≡ trace.layout
-  begun_layout (Ok Fresh) = refl
-  begun_layout (Ok (Torn generation)) = refl
-  begun_layout (Ok (Kept generation rec)) = refl
-  begun_layout (Err fault) = refl
+  begun_layout : (found : Start) → (begun found).layout ≡ trace.layout
+  begun_layout Fresh = refl
+  begun_layout (Torn generation) = refl
+  begun_layout (Kept generation rec) = refl
 
-  begun_known : (found : Result Start ImageFault) → slice_index trace.image 1 < 2 ^ 64 → image_of trace.layout trace.image ≡ found
-      → length (begun found).history + (begun found).base ≡ (begun found).position
-  begun_known (Ok Fresh) fits is = refl
-  begun_known (Ok (Torn generation)) fits is = omega arith
-  begun_known (Ok (Kept generation rec)) fits is =
-      let holds : Holds trace.layout trace.image (Kept generation rec) = (admitted_holds trace.layout trace.image (Kept generation rec) fits is).holds in
-      let even : generation % 2 ≡ 0 = holds.1.0 in
-      let some : 0 < generation = holds.1.1.0 in
+  begun_known : (found : Start) → start_of trace.image ≡ found → length (begun found).history + (begun found).base ≡ (begun found).position
+  begun_known Fresh is = refl
+  begun_known (Torn generation) is = omega arith
+  begun_known (Kept generation rec) is =
+      let number = kept_number trace.image (header_of (slice_index trace.image 1)).2 generation rec is in
+      let even = number.0 in
+      let some = number.1 in
       omega (arith, even, some)
-  begun_known (Err fault) fits is = refl
 
   -- the image's record has no base of a poll
   none_based : (place : ℕ) → (slice_index_or [] place no_publication).base ≡ 0
@@ -208,35 +206,34 @@ module _ (trace : Trace) where
   one_based publication zero is = is
   one_based publication (suc place) is = none_based place
 
-  begun_based : (found : Result Start ImageFault) (position : ℕ) → (entry_at (begun found).base (begun found).history position).base ≡ 0
-  begun_based (Ok Fresh) position = none_based (position - 0 - 1)
-  begun_based (Ok (Torn generation)) position = none_based (position - generation / 2 - 1)
-  begun_based (Ok (Kept generation rec)) position = one_based (image_publication (count_of trace.page) generation rec) (position - (generation / 2 - 1) - 1) refl
-  begun_based (Err fault) position = none_based (position - 0 - 1)
+  begun_based : (found : Start) (position : ℕ) → (entry_at (begun found).base (begun found).history position).base ≡ 0
+  begun_based Fresh position = none_based (position - 0 - 1)
+  begun_based (Torn generation) position = none_based (position - generation / 2 - 1)
+  begun_based (Kept generation rec) position = one_based (image_publication (count_of trace.page) generation rec) (position - (generation / 2 - 1) - 1) refl
 
   -- without a record in the image
-  begun_fresh : (found : Result Start ImageFault) → found ≡ Ok Fresh → (begun found).position ≡ 0
-  begun_fresh found is = subst (λ (f : Result Start ImageFault). (begun f).position ≡ 0) (sym is) refl
+  begun_fresh : (found : Start) → found ≡ Fresh → (begun found).position ≡ 0
+  begun_fresh found is = subst (λ (f : Start). (begun f).position ≡ 0) (sym is) refl
 
-  begun_knows : (found : Result Start ImageFault) → found ≡ Ok Fresh → KnowsPoll (entry_at (begun found).base (begun found).history (begun found).position).rec.status 0
+  begun_knows : (found : Start) → found ≡ Fresh → KnowsPoll (entry_at (begun found).base (begun found).history (begun found).position).rec.status 0
   begun_knows found is =
-      subst (λ (f : Result Start ImageFault). KnowsPoll (entry_at (begun f).base (begun f).history (begun f).position).rec.status 0) (sym is) (λ known calm. absurd (known refl))
+      subst (λ (f : Start). KnowsPoll (entry_at (begun f).base (begun f).history (begun f).position).rec.status 0) (sym is) (λ known calm. absurd (known refl))
 
-  start_marked : slice_index trace.image 1 < 2 ^ 64 → RunMarked trace (start trace)
-  start_marked fits =
-      let found = image_of trace.layout trace.image in
+  start_marked : RunMarked trace (start trace)
+  start_marked =
+      let found = start_of trace.image in
       record {
         begun = omega arith;
         numbered = record { most = omega arith; begun = λ off. absurd (cc off) };
         layout = begun_layout found;
         daemon_is = record {
           stands = record {
-            known = begun_known found fits refl;
+            known = begun_known found refl;
             stand = tt;
             top = begun_based found (begun found).position;
             fresh = λ off. refl;
-            unheaded = λ none off. begun_fresh found none;
-            knows = λ none. begun_knows found none;
+            unheaded = λ none off. begun_fresh found (image_of-start trace.layout trace.image Fresh none);
+            knows = λ none. begun_knows found (image_of-start trace.layout trace.image Fresh none);
             others = λ n low high untold. begun_based found n;
             last = λ some. absurd (omega (arith, some));
           };
@@ -246,10 +243,10 @@ module _ (trace : Trace) where
         clients_are = none_begun trace (start trace).host (start trace).segment (range_with_len 1 trace.clients);
       }
 
-  start_based : slice_index trace.image 1 < 2 ^ 64 → RunBased trace (start trace)
-  start_based fits =
+  start_based : RunBased trace (start trace)
+  start_based =
       record {
-        stands = record { known = begun_known (image_of trace.layout trace.image) fits refl; last = λ some. absurd (omega (arith, some)) };
+        stands = record { known = begun_known (start_of trace.image) refl; last = λ some. absurd (omega (arith, some)) };
         work = tt;
         all = tt;
       }
@@ -266,7 +263,7 @@ turn_tells trace run who is =
     record { holds = turn_holds trace run who is.holds; based = turn_based trace run who is.holds is.based; marked = turn_marked trace run who is.holds is.marked }
 
 pub start_tells : (trace : Trace) → CanRun trace → slice_index trace.image 1 < 2 ^ 64 → RunTells trace (start trace)
-start_tells trace can fits = record { holds = start_holds trace can.lawful; based = start_based trace fits; marked = start_marked trace fits }
+start_tells trace can fits = record { holds = start_holds trace can.lawful; based = start_based trace; marked = start_marked trace }
 
 turns_tell : (trace : Trace) (parties : List Party) (run : Run) → RunTells trace run → RunTells trace (turns_by trace run parties)
 turns_tell trace [] run is = is

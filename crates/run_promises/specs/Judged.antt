@@ -61,10 +61,9 @@ claim_of past time trail = claim_by past time trail (told_at trail.position past
 
 -- an answer is looked at: it says that its interval contains true time
 abbrev pub is_trusted : ClockStatus → Bool
-is_trusted Unknown = false
 is_trusted Synchronized = true
 is_trusted FreeRunning = true
-is_trusted Disrupted = false
+is_trusted other = false
 
 -- the first fault of its claim
 abbrev pub judged : Trace → List Event → Timed → Trail → Option Fault
@@ -75,28 +74,20 @@ verdict_of client call None = Held
 verdict_of client call (Some fault) = Failed client call fault.why fault.at
 
 abbrev pub judged_answer : Trace → List Event → (client call : ℕ) → Answer → Option Trail → Premises
-judged_answer trace past client call (answers.Time time) None = Held
 judged_answer trace past client call (answers.Time time) (Some trail) =
     if is_trusted time.interval.status then verdict_of client call (judged trace past time trail) else Held
-judged_answer trace past client call answers.NotInitialized trail = Held
-judged_answer trace past client call (answers.Busy tries first last) trail = Held
-judged_answer trace past client call (answers.PageBusy first last) trail = Held
-judged_answer trace past client call (answers.Causality causality) trail = Held
+judged_answer trace past client call other trail = Held
 
 -- ---- the first answer of a run that has one
 
 abbrev pub failed_or : Premises → Premises → Premises
 failed_or Held later = later
-failed_or (Failed client call why at) later = Failed client call why at
+failed_or failed later = failed
 
 abbrev pub premises_by : Trace → List Event → Premises
 premises_by trace [] = Held
-premises_by trace (Opened poll start ∷ past) = premises_by trace past
-premises_by trace (Moved poll position generation ∷ past) = premises_by trace past
-premises_by trace (Published position publication marked_at replied_at ∷ past) = premises_by trace past
-premises_by trace (Skipped poll first last ∷ past) = premises_by trace past
-premises_by trace (Stopped poll stores ∷ past) = premises_by trace past
 premises_by trace (Answered client call answer trail ∷ past) = failed_or (premises_by trace past) (judged_answer trace past client call answer trail)
+premises_by trace (event ∷ past) = premises_by trace past
 
 -- of these events, in their order
 abbrev pub premises_of : Trace → List Event → Premises
@@ -107,18 +98,10 @@ premises_of trace events = premises_by trace (reverse events)
 -- this holds of each answer that is looked at, and of the events before it; each such answer has a trail
 abbrev pub EachTrusted : (List Event → Timed → Trail → Type 0) → List Event → Type 0
 EachTrusted Holds [] = Unit {0}
-EachTrusted Holds (Opened poll start ∷ past) = EachTrusted Holds past
-EachTrusted Holds (Moved poll position generation ∷ past) = EachTrusted Holds past
-EachTrusted Holds (Published position publication marked_at replied_at ∷ past) = EachTrusted Holds past
-EachTrusted Holds (Skipped poll first last ∷ past) = EachTrusted Holds past
-EachTrusted Holds (Stopped poll stores ∷ past) = EachTrusted Holds past
 EachTrusted Holds (Answered client call (answers.Time time) None ∷ past) = (is_trusted time.interval.status ≡ true → ⊥) × EachTrusted Holds past
 EachTrusted Holds (Answered client call (answers.Time time) (Some trail) ∷ past) =
     (is_trusted time.interval.status ≡ true → Holds past time trail) × EachTrusted Holds past
-EachTrusted Holds (Answered client call answers.NotInitialized trail ∷ past) = EachTrusted Holds past
-EachTrusted Holds (Answered client call (answers.Busy tries first last) trail ∷ past) = EachTrusted Holds past
-EachTrusted Holds (Answered client call (answers.PageBusy first last) trail ∷ past) = EachTrusted Holds past
-EachTrusted Holds (Answered client call (answers.Causality causality) trail ∷ past) = EachTrusted Holds past
+EachTrusted Holds (event ∷ past) = EachTrusted Holds past
 
 -- its claim fits the rows, where a poll gave the base; that poll was published
 abbrev pub FitsJudge : Trace → List Event → Timed → Trail → Type 0

@@ -13,10 +13,10 @@ use Rattle.interval_now.specs.declared.answers.Answer.{Answer}
 use Rattle.interval_now.specs.declared.answers.Answer.TheVariants as answers
 use Rattle.interval_now.specs.declared.answers.Timed.{Timed}
 use Rattle.interval_now.specs.Interval.{interval_of}
+use Rattle.clock_gate.specs.ClockRow.{row_at}
 use Rattle.step_core.specs.declared.event.Event.{Event}
 use Rattle.step_core.specs.declared.event.Event.TheVariants.{Opened, Moved, Published, Skipped, Stopped, Answered}
 use Rattle.step_core.specs.declared.event.Trail.{Trail}
-use Rattle.step_core.specs.RunDaemon.{row_at}
 use Rattle.step_core.specs.RunFacts.{EndedAs, told_at, told_by}
 use Rattle.step_core.specs.RunLaws.{marker_by}
 
@@ -71,22 +71,16 @@ IsByPublication trace past time trail =
     → interval_of told.publication.rec (row_at trace.clock time.row).mono (row_at trace.clock time.row).real (marker_at trace trail.mark_at) ≡ Ok time.interval
 
 abbrev pub AnswerTells : Trace → List Event → Answer → Option Trail → Type 0
-AnswerTells trace past (answers.Time time) None = Unit {0}
 AnswerTells trace past (answers.Time time) (Some trail) = IsByPublication trace past time trail
-AnswerTells trace past (answers.Busy tries first last) trail = Unit {0}
-AnswerTells trace past answers.NotInitialized trail = Unit {0}
-AnswerTells trace past (answers.PageBusy first last) trail = Unit {0}
-AnswerTells trace past (answers.Causality causality) trail = Unit {0}
+AnswerTells trace past other trail = Unit {0}
 
 -- ---- all events
 
 abbrev pub AllMarked : Trace → List Event → Type 0
 AllMarked trace [] = Unit {0}
-AllMarked trace (Opened poll start ∷ past) = AllMarked trace past
 -- a record is moved only from an image
 AllMarked trace (Moved poll position generation ∷ past) = (IsFresh trace → ⊥) × AllMarked trace past
 AllMarked trace (Published position publication marked_at replied_at ∷ past) =
     PublicationTells trace (Published position publication marked_at replied_at ∷ past) publication marked_at replied_at × AllMarked trace past
-AllMarked trace (Skipped poll first last ∷ past) = AllMarked trace past
-AllMarked trace (Stopped poll stores ∷ past) = AllMarked trace past
 AllMarked trace (Answered client call answer trail ∷ past) = AnswerTells trace past answer trail × AllMarked trace past
+AllMarked trace (event ∷ past) = AllMarked trace past
