@@ -2,7 +2,7 @@
 use Rattle.std.specs.Prelude.{ℕ, zero, suc, ◌==◌, if◌then◌else◌, List, [], ◌∷◌, slice_index_or, Option, Some, None}
 use Rattle.segment_layout.specs.declared.start.Start.TheVariants.{Fresh}
 use Rattle.step_core.specs.declared.event.Event.{Event}
-use Rattle.step_core.specs.declared.event.Event.TheVariants.{Opened, Moved, Published, Skipped, Stopped, Answered}
+use Rattle.step_core.specs.declared.event.Event.TheVariants.{Opened, Published}
 use Rattle.step_core.specs.RunFacts.{EndedAs}
 
 -- what stands where there is no event
@@ -16,13 +16,9 @@ past_of events (suc k) = slice_index_or events k no_event ∷ past_of events k
 
 -- the publication that an event tells, where it tells one
 abbrev pub ended_in : Event → Option EndedAs
-ended_in (Opened poll start) = None
-ended_in (Moved poll position generation) = None
 ended_in (Published position publication marked_at replied_at) =
     Some (record { position = position; publication = publication; marked_at = marked_at; replied_at = replied_at })
-ended_in (Skipped poll first last) = None
-ended_in (Stopped poll stores) = None
-ended_in (Answered client call answer trail) = None
+ended_in event = None
 
 -- this publication where it made this position, or else an earlier one
 abbrev pub at_or : (position : ℕ) → Option EndedAs → Option EndedAs → Option EndedAs
