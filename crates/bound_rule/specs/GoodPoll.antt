@@ -1,7 +1,7 @@
 -- A good poll (chrony's documentation): its reply is synchronised, and its clock error bound fits a record.
 use Rattle.std.specs.Prelude.{◌≡◌, ℕ, ◌+◌, ◌^◌, ◌≤ℤ◌, pos, Option, Some, None, Result, Ok, Err}
 use Rattle.candm_codec.specs.declared.tracking.Leap.{Leap}
-use Rattle.candm_codec.specs.declared.tracking.Leap.TheVariants.{Normal, Insert, Delete, Unsynchronised}
+use Rattle.candm_codec.specs.declared.tracking.Leap.TheVariants.{Unsynchronised}
 use Rattle.candm_codec.specs.declared.tracking.Tracking.{Tracking}
 use Rattle.chrony_fraction.specs.ClockError.{error_units, clock_error_bound}
 use Rattle.bound_rule.specs.declared.good.Good.{Good}

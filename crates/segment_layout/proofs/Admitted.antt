@@ -160,19 +160,24 @@ image_of-start layout words start is = by_magic (has_magic words) is
   where
     number : ℕ
     number = (header_of (slice_index words 1)).2
+
     by_header : Result Start ImageFault
     by_header = unless (first_fault (header_tests layout (slice_index words 1))) (start_at words number)
+
     of_zero : slice_index words 1 ≡ 0 → ◌≡◌ {A = Result Start ImageFault} (Ok Fresh) (Ok start) → start_of words ≡ start
     of_zero zero_header e = rw zero_header cc
+
     of_other : by_header ≡ Ok start → start_of words ≡ start
     of_other e = of_tests (first_fault (header_tests layout (slice_index words 1))) e
       where
         of_tests : (fault : Option ImageFault) → unless fault (start_at words number) ≡ Ok start → start_of words ≡ start
         of_tests None told = start_at-start words number start told
         of_tests (Some refused) told = absurd cc
+
     by_zero : (test : Bool) → (slice_index words 1 == 0) ≡ test → (if test then Ok Fresh else by_header) ≡ Ok start → start_of words ≡ start
     by_zero true test e = of_zero (grind (arith, nat_tests)) e
     by_zero false test e = of_other e
+
     by_magic : (magic : Bool) → (if magic then if slice_index words 1 == 0 then Ok Fresh else by_header else Err fault.Magic) ≡ Ok start → start_of words ≡ start
     by_magic true e = by_zero (slice_index words 1 == 0) refl e
     by_magic false e = absurd cc

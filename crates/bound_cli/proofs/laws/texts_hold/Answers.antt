@@ -1,7 +1,5 @@
-use Rattle.std.proofs.Common.{◌≡◌, ◌≤◌, ℕ, List, refl, subst, sym}
-use Rattle.std.specs.Prelude.{Ok}
-use Rattle.clock_gate.specs.declared.trace.Trace.{Trace}
-use Rattle.step_core.specs.Run.{Run, turns_by, start}
+use Rattle.std.proofs.Common.{refl, subst, sym}
+use Rattle.step_core.specs.Run.{Run}
 use Rattle.step_core.specs.RunWhole.{run_of}
 use Rattle.promised_truth.specs.Laws.{TellsPremises}
 use Rattle.bound_cli.specs.Headline.{IsFinished}
