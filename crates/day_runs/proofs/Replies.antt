@@ -19,7 +19,8 @@ use Rattle.status_machine.specs.declared.base.Base.{Base}
 use Rattle.status_machine.specs.declared.heard.Heard.TheVariants.{Reply}
 use Rattle.status_machine.specs.declared.poll.Poll.{Poll}
 use Rattle.status_machine.specs.Poll.{base_of_good, base_of_heard, base_of_poll, heard_by, heard_of}
-use Rattle.step_core.specs.RunDaemon.{no_poll, reading_at}
+use Rattle.clock_gate.specs.ClockRow.{reading_at}
+use Rattle.step_core.specs.RunDaemon.{no_poll}
 use Rattle.step_core.specs.RunFacts.{given_by}
 
 -- ---- a reply is read as what it tells
