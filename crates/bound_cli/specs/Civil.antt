@@ -50,6 +50,6 @@ abbrev pub line_with : Times → Printed → List ℕ
 line_with Nanoseconds line = line_text line
 line_with Civil line = civil_line line
 
--- earliest and latest, where a line tells an interval, are instants of years of four digits: each has exactly one date and time
+-- earliest and latest, where a line tells an interval, are instants of years of four digits
 abbrev pub HasDates : Printed → Type 0
 HasDates line = IfSome (interval_in line) (λ i. IsInstant i.earliest × IsInstant i.latest)

@@ -66,3 +66,7 @@ shown_text n = date_text (int_div_euclid n day_nanos) ++ 84 ∷ clock_text (unsi
 -- that, or nothing for a number that is no such instant
 unfoldable pub civil_text : ℤ → List ℕ
 civil_text n = if int_lt n FIRST_INSTANT then [] else if int_lt LAST_INSTANT n then [] else shown_text n
+
+-- the text of an instant is that of its date and time
+abbrev pub InstantsAreShown : Type 0
+InstantsAreShown = (n : ℤ) (shown : DateTime) → IsInstant n → IsDateTimeOf n shown → civil_text n ≡ utc_text shown

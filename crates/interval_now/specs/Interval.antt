@@ -29,7 +29,8 @@ abbrev pub is_disrupted : ClockStatus → Bool
 is_disrupted Disrupted = true
 is_disrupted other = false
 
--- a disruption mark isn't absorbed: the record is Disrupted, or there is a page whose marker isn't the record's
+-- a disruption mark isn't absorbed, as the client sees it: the record is Disrupted, or there is a page, and the record has no support or
+-- another marker
 abbrev pub is_unabsorbed : RecordFields → Option ℕ → Bool
 is_unabsorbed rec None = is_disrupted rec.status
 is_unabsorbed rec (Some marker) = is_disrupted rec.status || (not rec.support || not (rec.marker == marker))
@@ -40,7 +41,8 @@ status_by_age Unknown is_void is_young = Unknown
 status_by_age Synchronized is_void is_young = if is_void then Unknown else if is_young then Synchronized else FreeRunning
 status_by_age other is_void is_young = if is_void then Unknown else FreeRunning
 
--- Disrupted before all else; from void-after on Unknown; Synchronized for 5 s from as-of on, and then FreeRunning
+-- the first that fits: Disrupted by an unabsorbed mark; Unknown by an Unknown record, or from void-after on; Synchronized by a
+-- Synchronized record until 5 s after as-of; else FreeRunning
 abbrev pub client_status : RecordFields → ℕ → Option ℕ → ClockStatus
 client_status rec mono marker =
     if is_unabsorbed rec marker then Disrupted

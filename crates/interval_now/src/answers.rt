@@ -2,8 +2,8 @@
 
 use clock_gate::{ClockStatus, Stamp};
 
-/// True time lies from `earliest` to `latest`, in nanoseconds since 1970-01-01T00:00:00Z, as far as the status
-/// says. With `Unknown` or `Disrupted` it claims nothing.
+/// From `earliest` to `latest`, in nanoseconds since 1970-01-01T00:00:00Z. With `Synchronized` or `FreeRunning`, true time lies in it
+/// where the promises of its base were kept. With `Unknown` or `Disrupted` it claims nothing.
 #[derive(Clone, Copy, Debug, PartialEq, Eq)]
 pub struct Interval {
     pub earliest: i128,

@@ -1,6 +1,6 @@
 -- The events before an answer or a publication, in order and from the newest on: a publication with a position or of a poll is the one that
 -- is told of it, and what each event tells is of those before it.
-use Rattle.std.proofs.Common.{◌≡◌, ℕ, ◌<◌, ◌≤◌, Bool, true, false, cond, nat_eq, List, [], ◌∷◌, ◌++◌, reverse, Option, Some, None, is_some, refl, sym, ap, ◌∙◌, subst, arith, inl, inr, true≢false, append_assoc}
+use Rattle.std.proofs.Common.{◌≡◌, ℕ, ◌<◌, ◌≤◌, Bool, true, false, cond, nat_eq, List, [], ◌∷◌, ◌++◌, reverse, Option, Some, is_some, refl, sym, ap, ◌∙◌, subst, arith, inl, inr, true≢false, append_assoc}
 use Rattle.std.specs.Prelude.{◌||◌, ◌≢◌}
 use Rattle.std.proofs.lemmas.Bool.{cases_Bool, eq-eqb, ne_eqb, eqb-true}
 use Rattle.std.proofs.lemmas.List.{reverse-append, reverse-reverse}

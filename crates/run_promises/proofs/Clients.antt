@@ -24,7 +24,7 @@ use Rattle.step_core.specs.RunDaemon.{marked_by}
 use Rattle.step_core.specs.RunClient as run_client
 use Rattle.step_core.specs.RunClient.{SegmentAfter, Reads, IsWhole, Unpublished, AllFailed, segment_load, segment_reading, WholeRead, Clocked, CallStage, Reading, Clocking, Paging, Answered, CallAfter, Goes, Answers, CallRun, ClientRun, ClientTurn}
 use Rattle.segment_layout.specs.Record.{RecordFields}
-use Rattle.step_core.proofs.AnswerOf.{IsTimeOf, IsAnswer, IsReadOf, IsClockedOf, StandsIn, PageFits, FitsIn, LeavesOf, step_of}
+use Rattle.step_core.proofs.AnswerOf.{IsTimeOf, IsAnswer, IsReadOf, StandsIn, PageFits, FitsIn, LeavesOf, step_of}
 use Rattle.step_core.proofs.RunFactsClient.{CallFits, StageFits}
 use Rattle.run_promises.specs.Told.{marker_at, AnswerTells, IsByPublication}
 use Rattle.run_promises.proofs.PageReads.{LookFits, LookAfter, look_later, look_fits}

@@ -16,7 +16,7 @@ use Rattle.promise_judge.specs.declared.claim.Claim.{Claim}
 use Rattle.promise_judge.specs.declared.fault.Fault.{Fault}
 use Rattle.promise_judge.specs.declared.fault.Why.{Why}
 use Rattle.promise_judge.specs.Containment as judge
-use Rattle.promise_judge.specs.Containment.{IsTrusted, IsContained}
+use Rattle.promise_judge.specs.Containment.{IsContained}
 use Rattle.promise_judge.specs.Promises.{fault_or, fault_of, wrap_of, image_of, where_found}
 use Rattle.promise_judge.specs.Telling.{IsTold, FitsRows}
 use Rattle.promise_judge.proofs.Contained.{kept_contains}

@@ -1,8 +1,8 @@
 -- Each turn of any party keeps what the events of a run tell.
 use Rattle.run_promises.proofs.PollNumbers.{Numbered, turn_numbered}
 use Rattle.run_promises.specs.Told.{KnowsPoll}
-use Rattle.std.proofs.Common.{◌≡◌, ℕ, zero, suc, ◌+◌, ◌-◌, ◌<◌, ◌≤◌, Bool, true, false, List, [], ◌∷◌, ◌++◌, length, Option, Some, None, Result, Ok, Err, refl, sym, ◌∙◌, subst, arith}
-use Rattle.std.specs.Prelude.{◌==◌, ◌/◌, ◌%◌, ◌^◌, reverse, slice_get, slice_set, slice_index, slice_index_or, if◌then◌else◌}
+use Rattle.std.proofs.Common.{◌≡◌, ℕ, zero, suc, ◌+◌, ◌-◌, ◌<◌, ◌≤◌, Bool, true, false, List, [], ◌∷◌, ◌++◌, length, Option, Some, None, refl, sym, ◌∙◌, subst, arith}
+use Rattle.std.specs.Prelude.{◌==◌, ◌/◌, ◌^◌, reverse, slice_get, slice_set, slice_index, slice_index_or, if◌then◌else◌}
 use Rattle.std.specs.List.{range_with_len}
 use Rattle.std.proofs.lemmas.List.{reverse-append}
 use Rattle.clock_gate.specs.declared.trace.HostRow.{HostRow}
@@ -24,7 +24,7 @@ use Rattle.step_core.specs.RunHost.{HostRun, pages_at, row_turn, host_turn}
 use Rattle.step_core.specs.RunSegment.{SegmentRun, segment_by, image_publication, no_publication}
 use Rattle.step_core.specs.RunDaemon.{Life, Work, Resting, Opening, Asking, Looking, Taking, Writing, DaemonRun, daemon_turn}
 use Rattle.step_core.specs.RunClient as run_client
-use Rattle.step_core.specs.RunClient.{Answered, CallRun, ClientRun, ClientTurn}
+use Rattle.step_core.specs.RunClient.{Answered, ClientRun, ClientTurn}
 use Rattle.step_core.specs.SharedReady.{CanRun}
 use Rattle.step_core.proofs.RunFactsClient.{CallFits}
 use Rattle.step_core.proofs.RunFactsHold.{AllFit, RunHolds, turn_holds, start_holds}

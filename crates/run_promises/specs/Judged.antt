@@ -7,7 +7,7 @@ use Rattle.promise_judge.specs.Containment.{IsTrusted}
 use Rattle.interval_now.specs.Interval.{IsGrowth}
 use Rattle.std.specs.Prelude.{◌≡◌, ℕ, ◌<◌, ◌≤ℤ◌, pos, unsigned_abs, ◌^◌, Bool, true, false, if◌then◌else◌, List, [], ◌∷◌, reverse, slice_index, Option, Some, None, ◌+◌, ◌-◌, ◌+ℤ◌, ◌-ℤ◌, ◌≤◌, length}
 use Rattle.clock_gate.specs.declared.clock_status.ClockStatus.{ClockStatus}
-use Rattle.clock_gate.specs.declared.clock_status.ClockStatus.TheVariants.{Unknown, Synchronized, FreeRunning, Disrupted}
+use Rattle.clock_gate.specs.declared.clock_status.ClockStatus.TheVariants.{Synchronized, FreeRunning}
 use Rattle.clock_gate.specs.declared.trace.Trace.{Trace}
 use Rattle.clock_gate.specs.ClockRow.{row_at}
 use Rattle.interval_now.specs.declared.answers.Answer.{Answer}
@@ -18,7 +18,7 @@ use Rattle.promise_judge.specs.declared.fault.Fault.{Fault}
 use Rattle.promise_judge.specs.Promises.{fault_of}
 use Rattle.promise_judge.specs.Telling.{FitsRows}
 use Rattle.step_core.specs.declared.event.Event.{Event}
-use Rattle.step_core.specs.declared.event.Event.TheVariants.{Opened, Moved, Published, Skipped, Stopped, Answered}
+use Rattle.step_core.specs.declared.event.Event.TheVariants.{Answered}
 use Rattle.step_core.specs.declared.event.Trail.{Trail}
 use Rattle.step_core.specs.RunFacts.{EndedAs, told_at, told_by, given_by}
 use Rattle.step_core.specs.SharedReady.{CanRun}

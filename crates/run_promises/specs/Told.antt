@@ -1,7 +1,7 @@
 -- What the events of a run tell of markers, and of the records that answers are by. `past` has the events before, the newest first.
 use Rattle.segment_layout.specs.Image.{image_of}
 use Rattle.segment_layout.specs.declared.start.Start.TheVariants.{Fresh}
-use Rattle.std.specs.Prelude.{◌≡◌, ◌≢◌, ℕ, ◌<◌, List, [], ◌∷◌, Option, Some, None, is_some, Ok, ◌≤◌, length}
+use Rattle.std.specs.Prelude.{◌≡◌, ◌≢◌, ℕ, ◌<◌, List, [], ◌∷◌, Option, Some, is_some, Ok, ◌≤◌, length}
 use Rattle.clock_gate.specs.declared.clock_status.ClockStatus.{ClockStatus}
 use Rattle.clock_gate.specs.declared.clock_status.ClockStatus.TheVariants.{Disrupted, Unknown}
 use Rattle.clock_gate.specs.declared.trace.Trace.{Trace}
@@ -15,7 +15,7 @@ use Rattle.interval_now.specs.declared.answers.Timed.{Timed}
 use Rattle.interval_now.specs.Interval.{interval_of}
 use Rattle.clock_gate.specs.ClockRow.{row_at}
 use Rattle.step_core.specs.declared.event.Event.{Event}
-use Rattle.step_core.specs.declared.event.Event.TheVariants.{Opened, Moved, Published, Skipped, Stopped, Answered}
+use Rattle.step_core.specs.declared.event.Event.TheVariants.{Moved, Published, Answered}
 use Rattle.step_core.specs.declared.event.Trail.{Trail}
 use Rattle.step_core.specs.RunFacts.{EndedAs, told_at, told_by}
 use Rattle.step_core.specs.RunLaws.{marker_by}

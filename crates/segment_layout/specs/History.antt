@@ -1,4 +1,5 @@
--- What was published to a segment, and where a segment stands. Positions here never wrap, and there are no words.
+-- What was published to a segment, and where a segment stands. Positions here never wrap, and no word is shared: what a load gives is
+-- computed from the position, the records and the image.
 use Rattle.std.specs.Prelude.{ℕ, ◌+◌, ◌*◌, Bool, List, [], ◌∷◌, slice_index, nat_le, ◌==◌, if◌then◌else◌}
 use Rattle.generation_word.specs.declared.layout.Layout.{Layout}
 use Rattle.generation_word.specs.Layout.{period_of}
@@ -14,7 +15,7 @@ use Rattle.segment_layout.specs.Words.{flag_of, record_words}
 abbrev pub History : Type 0
 History = List Publication
 
--- how many publications ended, and whether an update is open
+-- the position, which is half of the image's generation and one more for each publication since, and whether an update is open
 pub record AbstractSegment : Type 0 where
   pub position : ℕ
   pub is_writing : Bool

@@ -53,7 +53,8 @@ abbrev pub one_later : Option (List Poll) → Poll → Option (List Poll)
 one_later None poll = None
 one_later (Some polls) poll = Some (polls ++ poll ∷ [])
 
--- the polls from the last marking poll on, in the order in which they came, or none where there is no mark
+-- the polls from the last marking poll on, in the order in which they came; all polls, where none marks and the opening found a Disrupted
+-- record; or none where there is no mark
 abbrev pub since_mark : Start → List Poll → Option (List Poll)
 since_mark start [] = start_since_mark start
 since_mark start (poll ∷ past) =
@@ -85,11 +86,12 @@ abbrev pub is_unabsorbed : Option (List Poll) → Bool
 is_unabsorbed None = false
 is_unabsorbed (Some polls) = not (is_absorbed polls)
 
--- there is a mark that isn't absorbed
+-- there is a mark that isn't absorbed: the daemon's view, over its polls
 abbrev pub is_disrupted : Start → List Poll → Bool
 is_disrupted start past = is_unabsorbed (since_mark start past)
 
--- disrupted before all else, then synchronized by a good poll, then free running by an earlier one
+-- Disrupted before all else; then Synchronized by a good poll; then FreeRunning where there is a base, of an earlier poll or of the record
+-- found at the opening; else Unknown
 abbrev pub status_by : (disrupted good has_base : Bool) → ClockStatus
 status_by disrupted good has_base =
     if disrupted then Disrupted else if good then Synchronized else if has_base then FreeRunning else Unknown

@@ -12,7 +12,7 @@ use Rattle.step_core.specs.RunPage.{PageAfter, Looks, Saw, Missed, page_load, is
 use Rattle.step_core.specs.RunSegment.{SegmentRun}
 use Rattle.step_core.specs.RunDaemon.{marked_by}
 use Rattle.step_core.specs.RunClient as run_client
-use Rattle.step_core.specs.RunClient.{SegmentTry, SegmentReading, SegmentAfter, Reads, IsWhole, Unpublished, AllFailed, segment_load, segment_reading, WholeRead, Clocked, CallStage, Reading, Clocking, Paging, Answered, CallAfter, Goes, Answers, CallRun, ClientRun}
+use Rattle.step_core.specs.RunClient.{SegmentTry, SegmentAfter, Reads, IsWhole, Unpublished, AllFailed, segment_load, segment_reading, Clocked, CallStage, Reading, Clocking, Paging, Answered, CallAfter, Goes, Answers, CallRun, ClientRun}
 use Rattle.step_core.proofs.SegmentTrail.{IsTryFrom, IsWholeFrom, IsAfterFrom, segment_load_from}
 
 -- ---- a call's answer stands at no earlier position than its first load did

@@ -14,7 +14,7 @@ use Rattle.step_core.specs.RunPage.{PageAfter, Looks, Saw, Missed, page_load, is
 use Rattle.step_core.specs.RunSegment.{SegmentRun, header_shown, number_shown, number_at}
 use Rattle.step_core.specs.RunDaemon.{marked_by}
 use Rattle.step_core.specs.RunClient as run_client
-use Rattle.step_core.specs.RunClient.{SegmentTry, SegmentReading, SegmentAfter, Reads, IsWhole, Unpublished, AllFailed, segment_try_fails, segment_load_by, segment_last_load, segment_load, segment_reading, WholeRead, Clocked, CallStage, Reading, Clocking, Paging, Answered, CallAfter, Goes, Answers, CallRun, ClientRun, ClientTurn}
+use Rattle.step_core.specs.RunClient.{SegmentTry, SegmentReading, SegmentAfter, Reads, IsWhole, Unpublished, AllFailed, segment_try_fails, segment_load_by, segment_last_load, segment_load, segment_reading, Clocked, CallStage, Reading, Clocking, Paging, Answered, CallAfter, Goes, Answers, CallRun, ClientRun, ClientTurn}
 use Rattle.step_core.specs.RunFacts.{made_by, StoodAt, TrailTells}
 use Rattle.step_core.proofs.SegmentLoad.{begun_try, longer_try, whole_read}
 use Rattle.step_core.proofs.RunFactsPast.{Stands}

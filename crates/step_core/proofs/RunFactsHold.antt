@@ -22,7 +22,7 @@ use Rattle.step_core.specs.RunHost.{HostRun, row_turn, host_turn}
 use Rattle.step_core.specs.RunSegment.{SegmentRun, segment_by}
 use Rattle.step_core.specs.RunDaemon.{Work, Resting, Opening, Asking, Looking, Taking, Writing, DaemonRun, DaemonTurn, daemon_turn}
 use Rattle.step_core.specs.RunClient as run_client
-use Rattle.step_core.specs.RunClient.{Answered, CallRun, ClientRun, ClientTurn}
+use Rattle.step_core.specs.RunClient.{Answered, ClientRun}
 use Rattle.step_core.specs.RunWhole.{run_of}
 use Rattle.step_core.specs.RunFacts.{is_kept_at, AllTell}
 use Rattle.step_core.proofs.RunKeeps.{run_keeps}

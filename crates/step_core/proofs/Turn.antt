@@ -15,11 +15,11 @@ use Rattle.vmclock_page.specs.Host.{count_of}
 use Rattle.step_core.specs.declared.event.Event.{Event}
 use Rattle.step_core.specs.declared.marks.Place.{Place}
 use Rattle.step_core.specs.Run as runs
-use Rattle.step_core.specs.Run.{Run, turn, start, answer_events}
+use Rattle.step_core.specs.Run.{Run, turn, start}
 use Rattle.step_core.specs.RunHost.{HostRun, host_start, host_turn}
 use Rattle.step_core.specs.RunSegment.{segment_by, segment_start}
 use Rattle.step_core.specs.RunDaemon as run_daemon
-use Rattle.step_core.specs.RunDaemon.{DaemonRun, daemon_start, daemon_turn}
+use Rattle.step_core.specs.RunDaemon.{daemon_turn}
 use Rattle.step_core.specs.RunClient as run_client
 use Rattle.step_core.specs.RunClient.{ClientRun}
 use Rattle.step_core.specs.Shared as shareds

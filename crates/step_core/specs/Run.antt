@@ -1,4 +1,5 @@
--- The abstract run: positions never wrap, records are whole, and there are no words. One turn is one step of one party.
+-- The abstract run: positions never wrap, records are whole, and no word is shared: what a load gives is computed from where the host and
+-- the segment stand. One turn is one step of one party.
 use Rattle.std.specs.Prelude.{ℕ, zero, suc, ◌-◌, ◌==◌, List, [], ◌∷◌, ◌++◌, map, filter, slice_get, slice_set, Option, Some, None}
 use Rattle.std.specs.List.{range_with_len}
 use Rattle.clock_gate.specs.declared.trace.CallRow.{CallRow}

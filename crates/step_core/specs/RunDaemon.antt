@@ -1,5 +1,6 @@
--- The daemon in the abstract run: openings, polls and publications, step by step. A poll's record is that of looking back over
--- the incarnation.
+-- The daemon in the abstract run: openings, polls and publications, step by step. A poll is one round: load the clock, load the page's
+-- marker, take chrony's reply, publish. A mark is a change of the page's disruption marker; support means that there is a page. A poll's
+-- record is that of looking back over the incarnation.
 use Rattle.std.specs.Prelude.{ℕ, ◌+◌, ◌-◌, Bool, false, ◌==◌, if◌then◌else◌, List, [], ◌∷◌, slice_get, slice_index_or, Option, Some, None, is_some}
 use Rattle.clock_gate.specs.ClockRow.{reading_at}
 use Rattle.clock_gate.specs.declared.trace.PollRow.{PollRow}
@@ -18,7 +19,7 @@ use Rattle.step_core.specs.RunHost.{HostRun, clocks_at, page_shown, marker_of, s
 use Rattle.step_core.specs.RunPage.{PageReading, PageAfter, Looks, Saw, Missed, page_reading, page_load, is_marker_next}
 use Rattle.step_core.specs.RunSegment.{SegmentRun, is_old, start_found, opening_length, opening_effect, number_shown, number_at, stored}
 
--- an incarnation with its polls, the newest first
+-- an incarnation with its polls whose reply was taken, the newest first; skipped polls aren't among them
 pub record Life : Type 0 where
   pub from : Incarnation
   pub past : List Poll
@@ -51,7 +52,7 @@ pub data Work : Type 0 where
   Writing : (storing : Storing) → Work
 
 -- the daemon: its incarnation, or none while it is stopped; the poll in hand; how many polls were begun; and the base number of the
--- last publication that ended, 0 where that is the image's record
+-- last publication that ended: the poll that gave as-of and bound, 0 where no poll of this run did
 pub record DaemonRun : Type 0 where
   pub life : Option Life
   pub work : Work

@@ -13,17 +13,20 @@ use Rattle.segment_layout.specs.Record.{RecordFields}
 use Rattle.segment_layout.specs.Words.{fields_of_words}
 use Rattle.segment_layout.specs.History.{History, AbstractSegment, Begun, number_of, header_seen, start_seen}
 
--- the words that stood at first; the position before the first entry of the history; the position; whether an update is
--- open; whether word 1 was stored since the start; the publications whose even number was stored, the newest last; and those
--- that were begun, the newest first
 pub record SegmentRun : Type 0 where
   pub layout : Layout
+  -- the ten words that stood at first
   pub image : List ℕ
+  -- the position just before the first entry of the history, and the position now
   pub base : ℕ
   pub position : ℕ
+  -- an update is open
   pub is_writing : Bool
+  -- word 1 was stored since the start; before, it is the image's own
   pub is_headed : Bool
+  -- the publications whose even number was stored, the newest last
   pub history : History
+  -- those whose first store was made, abandoned ones too, the newest first
   pub begun : List Begun
 
 abbrev pub abstract_of : SegmentRun → AbstractSegment

@@ -46,6 +46,9 @@ returns-clause-refined c bytes trace read =
 pub returns-clause-dated : goal.returns-clause-dated
 returns-clause-dated c bytes trace read = run_dated trace (run_of trace).events refl (c.dated_laws.ensures.whole trace (c.read_runs_laws.ensures.traces bytes trace read))
 
+pub returns-clause-date_text : goal.returns-clause-date_text
+returns-clause-date_text c = c.civil_laws.ensures.text
+
 pub returns-clause-one_date : goal.returns-clause-one_date
 returns-clause-one_date c = c.civil_laws.ensures.one
 
