@@ -28,7 +28,7 @@ use Rattle.step_core.specs.RunSegment.{SegmentRun, opening_effect, opening_lengt
 use Rattle.step_core.specs.RunDaemon as run_daemon
 use Rattle.step_core.specs.RunDaemon.{Life, Asked, Storing, Work, Resting, Opening, Asking, Looking, Taking, Writing, DaemonRun, DaemonTurn, daemon_turn, marked_by, base_number}
 use Rattle.step_core.specs.RunFacts.{EndedAs, told_at, AllEarlier}
-use Rattle.step_core.specs.RunLaws.{marker_by}
+use Rattle.step_core.specs.RunHost.{marker_by}
 use Rattle.step_core.proofs.RunFactsDaemon.{next_number, WorkFits, opening_some}
 use Rattle.run_promises.specs.Told.{marker_at, IsMarkOf, KeepsMarker, AllMarked, IsFresh, KnowsPoll}
 use Rattle.run_promises.proofs.Marks.{BaseMarked, LifeMarked, poll_marked, BaseKnown, poll_known}

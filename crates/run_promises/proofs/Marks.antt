@@ -20,7 +20,7 @@ use Rattle.step_core.specs.declared.event.Event.{Event}
 use Rattle.step_core.specs.declared.event.Event.TheVariants.{Published}
 use Rattle.step_core.specs.RunDaemon.{Life}
 use Rattle.step_core.specs.RunFacts.{EndedAs, told_by, AllEarlier}
-use Rattle.step_core.specs.RunLaws.{marker_by}
+use Rattle.step_core.specs.RunHost.{marker_by}
 use Rattle.step_core.proofs.RunFactsBases.{told_below, other_found}
 use Rattle.run_promises.specs.Told.{marker_at, IsMarkOf}
 

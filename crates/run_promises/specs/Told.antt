@@ -18,7 +18,7 @@ use Rattle.step_core.specs.declared.event.Event.{Event}
 use Rattle.step_core.specs.declared.event.Event.TheVariants.{Moved, Published, Answered}
 use Rattle.step_core.specs.declared.event.Trail.{Trail}
 use Rattle.step_core.specs.RunFacts.{EndedAs, told_at, told_by}
-use Rattle.step_core.specs.RunLaws.{marker_by}
+use Rattle.step_core.specs.RunHost.{marker_by}
 
 -- the page's marker when so many rows of the host were done, where there is a page
 abbrev pub marker_at : Trace → (done : ℕ) → Option ℕ

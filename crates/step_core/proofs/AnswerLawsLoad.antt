@@ -18,7 +18,7 @@ use Rattle.step_core.specs.RunSegment.{SegmentRun, header_shown, number_shown, n
 use Rattle.step_core.specs.RunDaemon.{marked_by}
 use Rattle.step_core.specs.RunClient as run_client
 use Rattle.step_core.specs.RunClient.{SegmentTry, SegmentReading, Reads, IsWhole, Unpublished, AllFailed, segment_try_fails, segment_last_load, segment_load_by, segment_reading, Clocked, CallStage, Reading, Clocking, Paging, Answered, CallAfter, Goes, Answers, CallRun, ClientRun}
-use Rattle.step_core.specs.AnswerLaws.{next_call, begun_read, read_at, next_read, first_number}
+use Rattle.step_core.specs.NextLoad.{next_call, begun_read, read_at, next_read, first_number}
 
 -- ---- one load of a call: the tries that are not left have failed
 

@@ -10,7 +10,7 @@ use Rattle.step_core.specs.RunSegment.{SegmentRun}
 use Rattle.step_core.specs.RunClient.{SegmentTry, SegmentReading, segment_reading, CallStage, Reading, Clocking, Paging, CallRun}
 use Rattle.step_core.specs.ShowsSegment.{IsSegment, IsSegmentTryOf}
 use Rattle.step_core.specs.ShowsClient.{ShowsStage, ShowsCallOf, AreTries}
-use Rattle.step_core.specs.AnswerLaws.{begun_read, read_at, next_read, IsFailing}
+use Rattle.step_core.specs.NextLoad.{begun_read, read_at, next_read, IsFailing}
 use Rattle.step_core.proofs.SegmentLoad.{other_in_update}
 use Rattle.step_core.proofs.AnswerLawsLoad.{FailsLoad}
 

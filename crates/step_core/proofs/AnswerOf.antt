@@ -21,7 +21,7 @@ use Rattle.step_core.specs.RunSegment.{SegmentRun, header_shown, number_at, numb
 use Rattle.step_core.specs.RunDaemon.{marked_by}
 use Rattle.step_core.specs.RunClient as run_client
 use Rattle.step_core.specs.RunClient.{SegmentTry, SegmentReading, SegmentAfter, Reads, IsWhole, Unpublished, AllFailed, segment_try_fails, segment_load, segment_load_by, segment_last_load, WholeRead, Clocked, CallStage, Reading, Clocking, Paging, CallAfter, Goes, Answers}
-use Rattle.step_core.specs.RunLaws.{marker_by, sequence_by}
+use Rattle.step_core.specs.RunHost.{marker_by, sequence_by}
 use Rattle.step_core.proofs.SegmentLoad.{begun_try, longer_try, whole_read}
 
 -- ---- what is said of an answer

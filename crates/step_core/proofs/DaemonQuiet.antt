@@ -1,5 +1,5 @@
 -- The daemon's turns tell of no answer, and the position never falls.
-use Rattle.std.proofs.Common.{◌≡◌, ℕ, ◌+◌, ◌≤◌, Bool, true, false, List, [], ◌∷◌, ◌++◌, Option, Some, None, refl, ap, ◌∙◌, arith}
+use Rattle.std.proofs.Common.{ℕ, ◌+◌, ◌≤◌, Bool, true, false, List, [], ◌∷◌, Option, Some, None, arith}
 use Rattle.std.specs.Prelude.{◌==◌, slice_get, if◌then◌else◌}
 use Rattle.clock_gate.specs.declared.trace.PollRow.{PollRow}
 use Rattle.clock_gate.specs.declared.trace.Trace.{Trace}
@@ -10,34 +10,11 @@ use Rattle.status_machine.specs.declared.poll.Poll.{Poll}
 use Rattle.vmclock_page.specs.Host.{count_of}
 use Rattle.step_core.specs.declared.event.Event.{Event}
 use Rattle.step_core.specs.declared.event.Event.TheVariants as events
-use Rattle.step_core.specs.declared.event.Trail.{Trail}
 use Rattle.step_core.specs.RunHost.{HostRun, clocks_at, page_shown}
 use Rattle.step_core.specs.RunPage.{PageAfter, Looks, Saw, Missed, page_load, is_marker_next}
 use Rattle.step_core.specs.RunSegment.{SegmentRun, number_shown, opening_effect, opening_length, headed, opened_update, moved_once, stored, stored_by, is_old, start_found, one_store_more}
 use Rattle.step_core.specs.RunDaemon as run_daemon
 use Rattle.step_core.specs.RunDaemon.{Life, Asked, Storing, Work, Resting, Opening, Asking, Looking, Taking, Writing, DaemonRun, DaemonTurn, daemon_turn, marked_by}
-use Rattle.step_core.specs.RunLaws.{with_trail, positions_of}
-
--- ---- positions of more events
-
-trail_more : (trail : Option Trail) (positions more : List ℕ) → with_trail trail (positions ++ more) ≡ with_trail trail positions ++ more
-trail_more None positions more = refl
-trail_more (Some trail) positions more = refl
-
-answered_more : (its : Bool) (trail : Option Trail) (all positions more : List ℕ) → all ≡ positions ++ more
-    → (if its then with_trail trail all else all) ≡ (if its then with_trail trail positions else positions) ++ more
-answered_more true trail all positions more is = ap (with_trail trail) is ∙ trail_more trail positions more
-answered_more false trail all positions more is = is
-
-pub positions_more : (client : ℕ) (told more : List Event) → positions_of client (told ++ more) ≡ positions_of client told ++ positions_of client more
-positions_more client [] more = refl
-positions_more client (events.Opened poll begins ∷ told) more = positions_more client told more
-positions_more client (events.Moved poll position generation ∷ told) more = positions_more client told more
-positions_more client (events.Published position publication marked_at replied_at ∷ told) more = positions_more client told more
-positions_more client (events.Skipped poll first last ∷ told) more = positions_more client told more
-positions_more client (events.Stopped poll stores ∷ told) more = positions_more client told more
-positions_more client (events.Answered which call answer trail ∷ told) more =
-    answered_more (which == client) trail (positions_of client (told ++ more)) (positions_of client told) (positions_of client more) (positions_more client told more)
 
 -- ---- the daemon's turns tell of no answer, and the position never falls
 
@@ -50,15 +27,6 @@ AreQuiet (events.Published position publication marked_at replied_at ∷ told) =
 AreQuiet (events.Skipped poll first last ∷ told) = AreQuiet told
 AreQuiet (events.Stopped poll stores ∷ told) = AreQuiet told
 AreQuiet (events.Answered which call answer trail ∷ told) = ⊥
-
-pub quiet_positions : (client : ℕ) (told : List Event) → AreQuiet told → positions_of client told ≡ []
-quiet_positions client [] quiet = refl
-quiet_positions client (events.Opened poll begins ∷ told) quiet = quiet_positions client told quiet
-quiet_positions client (events.Moved poll position generation ∷ told) quiet = quiet_positions client told quiet
-quiet_positions client (events.Published position publication marked_at replied_at ∷ told) quiet = quiet_positions client told quiet
-quiet_positions client (events.Skipped poll first last ∷ told) quiet = quiet_positions client told quiet
-quiet_positions client (events.Stopped poll stores ∷ told) quiet = quiet_positions client told quiet
-quiet_positions client (events.Answered which call answer trail ∷ told) quiet = absurd quiet
 
 pub record IsQuiet (segment : SegmentRun) (next : DaemonTurn) : Type 0 where
   pub rises : segment.position ≤ next.segment.position

@@ -15,8 +15,7 @@ pub mod RunDaemon
 pub mod RunClient
 pub mod Run
 pub mod RunWhole
-pub mod RunLaws
-pub mod AnswerLaws
+pub mod NextLoad
 pub mod ShowsHost
 pub mod ShowsSegment
 pub mod ShowsClient
