@@ -8,9 +8,9 @@ use Rattle.interval_now.specs.declared.answers.Interval.{Interval}
 use Rattle.interval_now.specs.declared.answers.Timed.{Timed}
 use Rattle.interval_now.specs.declared.answers.Answer.{Answer}
 use Rattle.interval_now.specs.declared.answers.Answer.TheVariants as answers
-use Rattle.report_audit.specs.declared.printed.Printed.{Printed}
-use Rattle.report_audit.specs.declared.printed.Printed.TheVariants as lines
-use Rattle.report_audit.specs.Lines.{call_place, time_place, interval_text, time_text, answered_line, line_text}
+use Rattle.lawful_report.specs.declared.printed.Printed.{Printed}
+use Rattle.lawful_report.specs.declared.printed.Printed.TheVariants as lines
+use Rattle.lawful_report.specs.Lines.{call_place, time_place, interval_text, time_text, answered_line, line_text}
 use Rattle.bound_cli.specs.Civil.{interval_told, interval_in, unended}
 
 -- a text that ends with a line feed

@@ -5,9 +5,9 @@ use Rattle.civil_time.specs.Civil.{civil_text, IsInstant}
 use Rattle.interval_now.specs.declared.answers.Interval.{Interval}
 use Rattle.interval_now.specs.declared.answers.Answer.{Answer}
 use Rattle.interval_now.specs.declared.answers.Answer.TheVariants as answers
-use Rattle.report_audit.specs.declared.printed.Printed.{Printed}
-use Rattle.report_audit.specs.declared.printed.Printed.TheVariants as lines
-use Rattle.report_audit.specs.Lines.{line_text}
+use Rattle.lawful_report.specs.declared.printed.Printed.{Printed}
+use Rattle.lawful_report.specs.declared.printed.Printed.TheVariants as lines
+use Rattle.lawful_report.specs.Lines.{line_text}
 use Rattle.bound_cli.specs.declared.times.Times.{Times}
 use Rattle.bound_cli.specs.declared.times.Times.TheVariants.{Nanoseconds, Civil}
 

@@ -12,9 +12,9 @@ use Rattle.interval_now.specs.declared.answers.Answer.TheVariants as answers
 use Rattle.step_core.specs.declared.event.Event.{Event}
 use Rattle.step_core.specs.declared.event.Event.TheVariants as events
 use Rattle.step_core.specs.RunWhole.{run_of}
-use Rattle.report_audit.specs.declared.printed.Printed.{Printed}
-use Rattle.report_audit.specs.declared.printed.Printed.TheVariants as lines
-use Rattle.report_audit.specs.Lines.{line_text}
+use Rattle.lawful_report.specs.declared.printed.Printed.{Printed}
+use Rattle.lawful_report.specs.declared.printed.Printed.TheVariants as lines
+use Rattle.lawful_report.specs.Lines.{line_text}
 use Rattle.run_promises.specs.Judged.{premises_of}
 use Rattle.trace_reader.specs.Grammar.{trace_in}
 use Rattle.trace_reader.specs.declared.trace_error.TraceFault.{TraceFault}

@@ -6,7 +6,7 @@ ghost use Rattle.bound_cli.specs.Civil.{civil_fields, civil_line, interval_in, i
 use crate::times::Times;
 use civil_time::put_civil;
 use interval_now::{Answer, Interval};
-use report_audit::{Printed, put_line};
+use lawful_report::{Printed, put_line};
 use std::alloc::AllocError;
 
 fn interval_told(answer: &Answer) -> Option<Interval>

@@ -14,7 +14,7 @@ use crate::times::Times;
 use crate::totals::{Totals, totals_of};
 use clock_gate::{Memory, Trace};
 use interval_now::Answer;
-use report_audit::{Printed, put_line};
+use lawful_report::{Printed, put_line};
 use run_promises::{Premises, any_run};
 use run_verdict::judged_run;
 use std::alloc::{AllocError, Global};

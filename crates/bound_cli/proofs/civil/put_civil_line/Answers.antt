@@ -1,7 +1,7 @@
 use Rattle.std.proofs.Common.{◌≡◌, ◌++◌, OnOk, ℕ, List, Option, Some, sym, ap, subst, ◌∙◌, append_assoc}
 use Rattle.std.specs.String.{string_bytes, string_len}
 use Rattle.interval_now.specs.declared.answers.Interval.{Interval}
-use Rattle.report_audit.specs.Lines.{line_text}
+use Rattle.lawful_report.specs.Lines.{line_text}
 use Rattle.bound_cli.specs.Civil.{civil_fields, civil_line, interval_in, unended, with_civil}
 use Rattle.bound_cli.proofs.LineEnds.{Ends, line_ends, without_feed}
 use Rattle.bound_cli.proofs.civil.put_civil_line.Goals as goal
