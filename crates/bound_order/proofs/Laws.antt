@@ -1,17 +1,16 @@
 -- What the steps promise of true time.
-use Rattle.std.proofs.Common.{◌≡◌, ◌≢◌, ℕ, zero, suc, ◌+◌, ◌<◌, ◌≤◌, ◌==◌, ◌&&◌, ℤ, pos, ◌+ℤ◌, ◌≤ℤ◌, ◌<ℤ◌, int_lt, Bool, true, false, List, [], ◌∷◌, Option, Some, None, IfSome, All, slice_get, ◌⊎◌, inl, inr, refl, sym, ap, subst, ◌∙◌, arith, if◌then◌else◌}
+use Rattle.std.proofs.Common.{◌≡◌, ◌≢◌, ℕ, zero, suc, ◌<◌, ◌≤◌, ◌==◌, ◌&&◌, ℤ, pos, ◌≤ℤ◌, ◌<ℤ◌, int_lt, Bool, true, false, List, [], ◌∷◌, Option, Some, None, IfSome, All, slice_get, ◌⊎◌, inl, inr, refl, sym, ap, subst, ◌∙◌, arith, if◌then◌else◌}
 use Rattle.std.proofs.lemmas.Int.{ints}
 use Rattle.clock_gate.specs.declared.clock_status.ClockStatus.{ClockStatus}
 use Rattle.clock_gate.specs.declared.clock_status.ClockStatus.TheVariants.{Unknown, Synchronized, FreeRunning, Disrupted}
 use Rattle.interval_now.specs.declared.answers.Interval.{Interval}
 use Rattle.bound_order.specs.declared.told.Told.{Told}
 use Rattle.bound_order.specs.declared.waiting.Waiting.TheVariants.{Pass, Stamp, Done, Hold}
-use Rattle.bound_order.specs.declared.lease.Lease.{Lease}
-use Rattle.bound_order.specs.declared.lease.Lease.TheVariants.{Untrusted, Grant, Act, Deny}
+use Rattle.bound_order.specs.declared.lease.Lease.TheVariants.{Grant, Act, Deny}
 use Rattle.bound_order.specs.declared.step.Step.{Step}
 use Rattle.bound_order.specs.declared.lease.Holder.{Holder}
 use Rattle.bound_order.specs.Ordering.{IsNear, trusted_by, trusted_in, trusted_of, wait_of, waiting_of, expiry_of, lease_by_interval, lease_after, lease_by, lease_of, step_by, step_of, steps_after, order_of}
-use Rattle.bound_order.specs.Promises.{IsTrueAt, StampsFollowTime, GrantedAt, IsUnder, ActsEndFirst, GrantsComeLater, HasTruth, AreTrue, KeepsOrder}
+use Rattle.bound_order.specs.Promises.{IsTrueAt, StampsFollowTime, GrantedAt, ActsEndFirst, GrantsComeLater, AreTrue, KeepsOrder}
 
 -- the interval of an answer that has one is near
 abbrev pub Near : Told → Type 0

@@ -1,9 +1,8 @@
 -- What the steps promise of true time.
-use Rattle.std.specs.Prelude.{◌≡◌, ◌≢◌, ℕ, ◌<◌, ◌≤◌, ℤ, pos, ◌≤ℤ◌, ◌<ℤ◌, List, Option, Some, slice_get}
+use Rattle.std.specs.Prelude.{◌≡◌, ◌≢◌, ℕ, ◌<◌, ◌≤◌, ℤ, pos, ◌≤ℤ◌, ◌<ℤ◌, List, Some, slice_get}
 use Rattle.interval_now.specs.declared.answers.Interval.{Interval}
 use Rattle.bound_order.specs.declared.told.Told.{Told}
 use Rattle.bound_order.specs.declared.waiting.Waiting.TheVariants.{Pass, Stamp, Done}
-use Rattle.bound_order.specs.declared.lease.Lease.{Lease}
 use Rattle.bound_order.specs.declared.lease.Lease.TheVariants.{Grant, Act}
 use Rattle.bound_order.specs.declared.step.Step.{Step}
 use Rattle.bound_order.specs.Ordering.{trusted_of}

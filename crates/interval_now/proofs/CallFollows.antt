@@ -6,7 +6,7 @@ use Rattle.clock_gate.specs.declared.clock_row.ClockRow.{ClockRow}
 use Rattle.clock_gate.specs.declared.clock_row.Reading.{Reading}
 use Rattle.clock_gate.specs.Acts.{after, WereAsked}
 use Rattle.clock_gate.specs.ClockRow.{reading_at}
-use Rattle.clock_gate.specs.Tries.{SeqlockRead, Outcome, Unpublished, AllFailed, Found, started, tries_of, progress, read_act, read_end}
+use Rattle.clock_gate.specs.Tries.{SeqlockRead, Outcome, Unpublished, AllFailed, Found, started, read_end}
 use Rattle.clock_gate.specs.Tries as tries
 use Rattle.clock_gate.proofs.Tries as laws
 use Rattle.segment_layout.specs.Record.{RecordFields}

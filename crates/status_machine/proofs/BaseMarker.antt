@@ -1,17 +1,16 @@
 -- No poll after the base marks, since its mark would have to be absorbed by a later base.
-use Rattle.std.proofs.Common.{◌≡◌, ◌⊎◌, ℕ, Bool, true, false, not, ◌&&◌, ◌||◌, ◌==◌, if◌then◌else◌, List, [], ◌∷◌, ◌++◌, Option, Some, None, is_some, refl, ap, sym, ◌∙◌, subst, inl, inr, arith, true≢false}
+use Rattle.std.proofs.Common.{◌≡◌, ℕ, Bool, true, false, not, ◌&&◌, ◌||◌, ◌==◌, if◌then◌else◌, List, [], ◌∷◌, Option, Some, None, is_some, refl, ap, sym, ◌∙◌, inl, inr, arith, true≢false}
 use Rattle.std.proofs.lemmas.Bool.{cases_Bool, not-false}
 use Rattle.std.proofs.lemmas.Bool.Decides.{nat_tests}
 use Rattle.candm_codec.specs.declared.tracking.RefTime.{RefTime}
 use Rattle.segment_layout.specs.Record.{RecordFields}
 use Rattle.segment_layout.specs.declared.start.Start.{Start}
 use Rattle.segment_layout.specs.declared.start.Start.TheVariants.{Fresh, Kept, Torn}
-use Rattle.status_machine.specs.declared.base.Base.{Base}
 use Rattle.status_machine.specs.declared.poll.Poll.{Poll}
 use Rattle.status_machine.specs.Poll.{reference_of, has_other_time, base_of_poll, is_good}
-use Rattle.status_machine.specs.Incarnation.{Incarnation, is_other, first_marks, marker_marks, marks, one_later, since_mark, guard_of, is_good_other, is_absorbed, is_unabsorbed, is_disrupted, base_at, start_base}
+use Rattle.status_machine.specs.Incarnation.{Incarnation, is_other, marks, one_later, since_mark, guard_of, is_absorbed, is_unabsorbed, is_disrupted, base_at, start_base}
 use Rattle.status_machine.specs.Step.{MarkersFit}
-use Rattle.status_machine.specs.BaseMarker.{start_marker, is_synchronized, base_marker, StartFits, BaseKeepsMarker, NoneSynchronized, CalmStart}
+use Rattle.status_machine.specs.BaseMarker.{start_marker, is_synchronized, base_marker, StartFits, BaseKeepsMarker, CalmStart}
 use Rattle.status_machine.proofs.LookBack.{absorbs, absorbed_none, is_absorbed-append}
 
 and_first : (a b : Bool) → (a && b) ≡ true → a ≡ true

@@ -15,7 +15,7 @@ use Rattle.step_core.specs.declared.hand.Job.{Job}
 use Rattle.step_core.specs.RunHost.{HostRun}
 use Rattle.step_core.specs.RunSegment.{SegmentRun, is_old_in, opening_length, opening_effect}
 use Rattle.step_core.specs.RunDaemon as run_daemon
-use Rattle.step_core.specs.RunDaemon.{Opening, DaemonRun, poll_row, is_move, opening_ends, opening_step}
+use Rattle.step_core.specs.RunDaemon.{Opening, DaemonRun, is_move, opening_ends, opening_step}
 use Rattle.step_core.specs.SharedWords.{after_act, value_of}
 use Rattle.step_core.specs.SharedDaemon.{DaemonState, opening_by, opening_with}
 use Rattle.step_core.specs.ShowsSegment.{ShowsSegment}

@@ -26,7 +26,7 @@ use Rattle.step_core.specs.RunHost.{HostRun}
 use Rattle.step_core.specs.RunSegment.{SegmentRun, number_shown, number_at}
 use Rattle.step_core.specs.RunDaemon.{Storing, Resting, Writing, DaemonRun, poll_row, is_stop, stops, published, publication_ends, after_stores}
 use Rattle.step_core.specs.SharedDaemon as shared_daemon
-use Rattle.step_core.specs.SharedDaemon.{DaemonState, stops_at_last, resumed_unless, stop_told, polling_by, polling_with, polling_after, noted_poll}
+use Rattle.step_core.specs.SharedDaemon.{DaemonState, stops_at_last, resumed_unless, stop_told, polling_by, polling_with}
 use Rattle.step_core.specs.ShowsDaemon.{IsAlive, IsOrder, IsStoring, IsMarkedAt}
 use Rattle.step_core.proofs.SegmentStore.{IsInStores}
 use Rattle.step_core.proofs.DaemonLeaves.{Leaves, resumed_is, order_same}

@@ -23,7 +23,6 @@ use Rattle.step_core.specs.RunWhole.{run_of, run_from, lines_from, finish}
 use Rattle.step_core.specs.Shared as shareds
 use Rattle.step_core.specs.Shared.{Shared, shared_turn, shared_start, shared_run, shared_lines, shared_finish}
 use Rattle.step_core.specs.SharedDaemon as shared_daemon
-use Rattle.step_core.specs.SharedDaemon.{DaemonState}
 use Rattle.step_core.specs.SharedClient as shared_client
 use Rattle.step_core.specs.SharedClient.{ClientState}
 use Rattle.step_core.specs.ShowsDaemon.{ShowsWork}

@@ -6,7 +6,7 @@ use Rattle.std.proofs.lemmas.Bool.Decides.{nat_tests}
 use Rattle.clock_gate.specs.declared.act.Act.{Act}
 use Rattle.clock_gate.specs.declared.act.Act.TheVariants.{Load, End}
 use Rattle.clock_gate.specs.Acts.{after, WereAsked}
-use Rattle.clock_gate.specs.Tries.{SeqlockRead, started, failed_try, Attempt, Wants, Absent, Failed, Read, Progress, Asks, Ends, Outcome, Unpublished, AllFailed, Found, progress, IsCalm}
+use Rattle.clock_gate.specs.Tries.{SeqlockRead, started, failed_try, Attempt, Wants, Absent, Failed, Read, Progress, Asks, Ends, Unpublished, Found, progress, IsCalm}
 use Rattle.clock_gate.specs.Tries as seqlock
 use Rattle.clock_gate.proofs.Tries.{data_loads-all, asks-first, asks-data, asks-last, ends-read, ends-failed, takes_few_steps}
 use Rattle.vmclock_page.specs.Words.{count_in_word}
