@@ -1,29 +1,29 @@
 -- What a call in hand has read stays as the run goes on, and its answer's interval is by the publication that made its position.
 use Rattle.std.proofs.Common.{◌≡◌, ℕ, zero, suc, ◌+◌, ◌<◌, ◌≤◌, true, false, List, [], ◌∷◌, length, Option, Some, None, is_some, Result, Ok, Err, refl, ap, sym, ◌∙◌, subst, arith, length-append}
 use Rattle.std.specs.Prelude.{slice_get, slice_set, map}
-use Rattle.clock_gate.specs.declared.trace.Trace.{Trace}
 use Rattle.generation_word.specs.declared.layout.Layout.{Layout}
 use Rattle.generation_word.specs.Layout.{period_of}
 use Rattle.generation_word.specs.Numbering.{generation_at}
+use Rattle.clock_gate.specs.declared.trace.Trace.{Trace}
+use Rattle.clock_gate.specs.ClockRow.{row_at}
+use Rattle.vmclock_page.specs.Host.{count_of}
 use Rattle.segment_layout.specs.declared.publication.Publication.{Publication}
+use Rattle.segment_layout.specs.Record.{RecordFields}
+use Rattle.segment_run.specs.SegmentRun.{SegmentRun, published_at}
 use Rattle.interval_now.specs.declared.answers.Interval.{Interval}
 use Rattle.interval_now.specs.declared.answers.Causality.{Causality}
 use Rattle.interval_now.specs.declared.answers.Answer.{Answer}
 use Rattle.interval_now.specs.declared.answers.Answer.TheVariants as answers
 use Rattle.interval_now.specs.declared.answers.Timed.{Timed}
 use Rattle.interval_now.specs.Interval.{interval_of}
-use Rattle.vmclock_page.specs.Host.{count_of}
-use Rattle.clock_gate.specs.ClockRow.{row_at}
 use Rattle.step_core.specs.declared.event.Event.{Event}
 use Rattle.step_core.specs.declared.event.Trail.{Trail}
 use Rattle.step_core.specs.Run.{client_start}
 use Rattle.step_core.specs.RunHost.{HostRun, clocks_at, pages_at, page_shown, marker_of, sequence_of}
 use Rattle.step_core.specs.RunPage.{PageTry, PageAfter, Looks, Saw, Missed, page_load, is_marker_next}
-use Rattle.step_core.specs.RunSegment.{SegmentRun, published_at}
 use Rattle.step_core.specs.RunDaemon.{marked_by}
 use Rattle.step_core.specs.RunClient as run_client
 use Rattle.step_core.specs.RunClient.{SegmentAfter, Reads, IsWhole, Unpublished, AllFailed, segment_load, segment_reading, WholeRead, Clocked, CallStage, Reading, Clocking, Paging, Answered, CallAfter, Goes, Answers, CallRun, ClientRun, ClientTurn}
-use Rattle.segment_layout.specs.Record.{RecordFields}
 use Rattle.step_core.proofs.AnswerOf.{IsTimeOf, IsAnswer, IsReadOf, StandsIn, PageFits, FitsIn, LeavesOf, step_of}
 use Rattle.step_core.proofs.RunFactsClient.{CallFits, StageFits}
 use Rattle.run_promises.specs.Told.{marker_at, AnswerTells, IsByPublication}

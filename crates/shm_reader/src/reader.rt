@@ -4,7 +4,8 @@ ghost use Rattle.clock_gate.specs.declared.limits.TheConstants.{MOST_TRIES};
 ghost use Rattle.clock_gate.specs.Acts.{IsLoadWithin};
 ghost use Rattle.segment_layout.specs.Words.{AreGoodWords};
 ghost use Rattle.clock_gate.specs.Tries.{started, failed_try, with_value, IsStage};
-ghost use Rattle.shm_reader.specs.SegmentTries.{segment_lock, generation_in, record_in, act_of, given, end_of, steps_left, IsGoodLoad};
+ghost use Rattle.shm_reader.specs.SegmentTries.{segment_lock, record_in, act_of, given, end_of, steps_left, IsGoodLoad};
+ghost use Rattle.generation_word.specs.Header.{generation_in};
 
 use crate::seen::Seen;
 use clock_gate::Act;

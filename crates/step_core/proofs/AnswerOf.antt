@@ -3,21 +3,21 @@ use Rattle.std.proofs.Common.{◌≡◌, ℕ, ◌+◌, ◌-◌, ◌≤◌, ◌<�
 use Rattle.std.specs.Prelude.{◌==◌, ◌||◌, not, nat_lt, nat_le, if◌then◌else◌}
 use Rattle.std.proofs.lemmas.Bool.{cases_eq}
 use Rattle.std.proofs.lemmas.Bool.Decides.{nat_tests}
-use Rattle.clock_gate.specs.declared.trace.Trace.{Trace}
 use Rattle.generation_word.specs.Layout.{period_of}
+use Rattle.clock_gate.specs.declared.trace.Trace.{Trace}
+use Rattle.clock_gate.specs.ClockRow.{row_at}
 use Rattle.vmclock_page.specs.Host.{count_of}
+use Rattle.segment_layout.specs.Record.{RecordFields}
+use Rattle.segment_run.specs.SegmentRun.{SegmentRun, header_shown, number_at, number_shown, published_at}
 use Rattle.interval_now.specs.declared.answers.Interval.{Interval}
 use Rattle.interval_now.specs.declared.answers.Causality.{Causality}
 use Rattle.interval_now.specs.declared.answers.Timed.{Timed}
 use Rattle.interval_now.specs.declared.answers.Answer.{Answer}
 use Rattle.interval_now.specs.declared.answers.Answer.TheVariants as answers
 use Rattle.interval_now.specs.Interval.{interval_of}
-use Rattle.segment_layout.specs.Record.{RecordFields}
 use Rattle.step_core.specs.declared.event.Trail.{Trail}
-use Rattle.clock_gate.specs.ClockRow.{row_at}
 use Rattle.step_core.specs.RunHost.{HostRun, PageShown, clocks_at, pages_at, page_shown, marker_of, sequence_of}
 use Rattle.step_core.specs.RunPage.{PageTry, PageReading, PageAfter, Looks, Saw, Missed, page_try_fails, page_load_by, page_last_load, page_load, is_marker_next}
-use Rattle.step_core.specs.RunSegment.{SegmentRun, header_shown, number_at, number_shown, published_at}
 use Rattle.step_core.specs.RunDaemon.{marked_by}
 use Rattle.step_core.specs.RunClient as run_client
 use Rattle.step_core.specs.RunClient.{SegmentTry, SegmentReading, SegmentAfter, Reads, IsWhole, Unpublished, AllFailed, segment_try_fails, segment_load, segment_load_by, segment_last_load, WholeRead, Clocked, CallStage, Reading, Clocking, Paging, CallAfter, Goes, Answers}

@@ -5,15 +5,15 @@ use Rattle.std.proofs.lemmas.List.Elements.{All-head, All-tail}
 use Rattle.clock_gate.specs.declared.trace.Trace.{Trace}
 use Rattle.clock_gate.specs.Trace.{IsFrom}
 use Rattle.clock_gate.specs.declared.limits.TheConstants.{MOST_TRIES}
+use Rattle.clock_gate.specs.ClockRow.{row_at}
 use Rattle.vmclock_page.specs.Host.{count_of}
+use Rattle.segment_run.specs.SegmentRun.{SegmentRun}
 use Rattle.interval_now.specs.declared.answers.Interval.{Interval}
 use Rattle.interval_now.specs.declared.answers.Causality.{Causality}
 use Rattle.interval_now.specs.Interval.{interval_of}
-use Rattle.clock_gate.specs.ClockRow.{row_at}
 use Rattle.step_core.specs.declared.limits.TheConstants.{MOST_JOB_STEPS}
 use Rattle.step_core.specs.RunHost.{HostRun, clocks_at, page_shown, marker_of, sequence_of}
 use Rattle.step_core.specs.RunPage.{PageAfter, Looks, Saw, Missed, page_load}
-use Rattle.step_core.specs.RunSegment.{SegmentRun}
 use Rattle.step_core.specs.RunDaemon.{marked_by}
 use Rattle.step_core.specs.RunPage.{is_marker_next}
 use Rattle.step_core.specs.RunClient.{SegmentAfter, Reads, IsWhole, Unpublished, AllFailed, segment_load, segment_reading, Clocked, CallStage, Reading, Clocking, Paging, CallAfter, Goes, Answers, CallRun, ClientRun, timed, call_ends, after_segment, clock_by, after_page, call_step, after_step, client_begins, client_turn_by}

@@ -5,14 +5,14 @@ use Rattle.std.proofs.lemmas.Bool.Decides.{nat_tests}
 use Rattle.std.proofs.lemmas.Option.{slice_get_within, slice_get-get_or}
 use Rattle.clock_gate.specs.declared.trace.PollRow.{PollRow}
 use Rattle.clock_gate.specs.declared.trace.Trace.{Trace}
+use Rattle.vmclock_page.specs.Host.{count_of}
 use Rattle.segment_layout.specs.declared.start.Start.{Start}
 use Rattle.segment_layout.specs.declared.start.Start.TheVariants.{Fresh, Kept, Torn}
-use Rattle.vmclock_page.specs.Host.{count_of}
 use Rattle.status_machine.specs.declared.poll.Poll.{Poll}
+use Rattle.segment_run.specs.SegmentRun.{SegmentRun, opening_length, opening_effect, start_found, is_old, stored}
 use Rattle.step_core.specs.declared.event.Event.TheVariants.{Stopped}
 use Rattle.step_core.specs.RunHost.{HostRun, clocks_at, page_shown}
 use Rattle.step_core.specs.RunPage.{PageAfter, Looks, Saw, Missed, page_reading, page_load, is_marker_next}
-use Rattle.step_core.specs.RunSegment.{SegmentRun, opening_length, opening_effect, start_found, is_old, stored}
 use Rattle.step_core.specs.RunDaemon.{Life, Asked, Storing, Work, Resting, Opening, Asking, Looking, Taking, Writing, DaemonRun, no_poll, poll_row, is_move, life_from, opening_ends, opening_step, poll_of, is_stop, stops, published, publication_ends, publication_of, after_stores, store_step, taken, look_by, marked_by, ask_by, poll_begins, next_poll, daemon_turn_by}
 use Rattle.step_core.specs.RunWhole.{is_resting, polls_ended, has_poll}
 use Rattle.step_core.proofs.EndsPage.{page_left, IsPageNearer, page_nearer, page_some}

@@ -2,10 +2,10 @@
 use Rattle.std.proofs.Common.{◌≡◌, ℕ, ◌+◌, ◌-◌, ◌*◌, ◌<◌, Bool, true, false, [], ◌∷◌, ◌++◌, length, Option, Some, None, refl, arith, length-append}
 use Rattle.std.specs.Prelude.{◌==◌, ◌||◌, not, nat_le, nat_lt, if◌then◌else◌}
 use Rattle.std.proofs.lemmas.Bool.Decides.{nat_tests}
+use Rattle.segment_layout.specs.History.{last_store}
+use Rattle.segment_run.specs.SegmentRun.{SegmentRun, number_shown, number_at, header_shown}
 use Rattle.step_core.specs.RunHost.{PageShown, sequence_of}
 use Rattle.step_core.specs.RunPage.{PageTry, PageReading, PageAfter, Looks, Saw, Missed, page_try_fails, page_last_load, page_load_by}
-use Rattle.segment_layout.specs.History.{last_store}
-use Rattle.step_core.specs.RunSegment.{SegmentRun, number_shown, number_at, header_shown}
 use Rattle.step_core.specs.RunClient.{SegmentTry, SegmentReading, SegmentAfter, Reads, IsWhole, Unpublished, AllFailed, WholeRead, record_read, segment_try_fails, segment_last_load, segment_load_by}
 
 -- ---- a read of the page

@@ -4,12 +4,13 @@ use Rattle.std.proofs.Common.{◌≡◌, ℕ, ◌+◌, ◌*◌, ◌≤◌, ◌<�
 use Rattle.std.specs.Prelude.{slice_index}
 use Rattle.clock_gate.specs.declared.trace.HostRow.{HostRow}
 use Rattle.clock_gate.specs.Tries.{SeqlockRead, started}
-use Rattle.segment_layout.specs.Words.{flag_of}
 use Rattle.vmclock_page.specs.Host.{Host}
+use Rattle.segment_layout.specs.Words.{flag_of}
+use Rattle.segment_run.specs.ShowsSegment.{KeepsRest}
 use Rattle.step_core.specs.RunHost.{HostRun, PageShown, clocks_at, pages_at, page_shown}
 use Rattle.step_core.specs.RunPage.{PageReading, PageTry, page_reading}
 use Rattle.step_core.specs.ShowsHost.{AreRows, ShowsHost, InHand, IsPageTry, IsPageTryOf, ShowsPageRead}
-use Rattle.step_core.proofs.Later.{IsHostLater, KeepsRest, page_point}
+use Rattle.step_core.proofs.Later.{IsHostLater, page_point}
 use Rattle.step_core.proofs.RowCounts.{clocks_most, clocks_some}
 use Rattle.step_core.proofs.HostTurn.{page_kept}
 

@@ -7,6 +7,8 @@ use Rattle.clock_gate.specs.declared.clock_status.ClockStatus.{ClockStatus}
 use Rattle.clock_gate.specs.declared.clock_status.ClockStatus.TheVariants.{Unknown, Synchronized, FreeRunning, Disrupted}
 use Rattle.clock_gate.specs.declared.trace.PollRow.{PollRow}
 use Rattle.clock_gate.specs.declared.trace.Trace.{Trace}
+use Rattle.clock_gate.specs.ClockRow.{reading_at}
+use Rattle.vmclock_page.specs.Host.{count_of}
 use Rattle.segment_layout.specs.declared.publication.Publication.{Publication}
 use Rattle.segment_layout.specs.declared.start.Start.{Start}
 use Rattle.segment_layout.specs.declared.start.Start.TheVariants.{Fresh, Kept, Torn}
@@ -15,19 +17,17 @@ use Rattle.status_machine.specs.declared.poll.Poll.{Poll}
 use Rattle.status_machine.specs.Incarnation.{base_at, start_base, base_by_status, is_disrupted, as_of_by, bound_by}
 use Rattle.status_machine.specs.Poll.{base_of_poll, is_good, heard_of}
 use Rattle.status_machine.proofs.BaseOfPoll.{base_of_poll-number, base_of_poll-unmarked}
-use Rattle.vmclock_page.specs.Host.{count_of}
-use Rattle.clock_gate.specs.ClockRow.{reading_at}
+use Rattle.segment_run.specs.SegmentRun.{SegmentRun, opening_effect, opening_length, headed, opened_update, moved_once, stored, is_old, start_found, one_store_more, number_shown, published_at}
+use Rattle.segment_run.proofs.SegmentEnded.{after_update_newest}
 use Rattle.step_core.specs.declared.event.Event.{Event}
 use Rattle.step_core.specs.declared.event.Event.TheVariants.{Opened, Moved, Published, Skipped, Stopped}
 use Rattle.step_core.specs.RunHost.{HostRun, clocks_at, page_shown}
 use Rattle.step_core.specs.RunPage.{PageAfter, Looks, Saw, Missed, page_load, is_marker_next}
-use Rattle.step_core.specs.RunSegment.{SegmentRun, opening_effect, opening_length, headed, opened_update, moved_once, stored, is_old, start_found, one_store_more, number_shown, published_at}
 use Rattle.step_core.specs.RunDaemon as run_daemon
 use Rattle.step_core.specs.RunDaemon.{Life, Asked, Storing, Work, Resting, Opening, Asking, Looking, Taking, Writing, DaemonRun, DaemonTurn, daemon_turn, marked_by, base_number}
 use Rattle.step_core.specs.RunFacts.{EndedAs, told_by, AllEarlier, given_by, HasBase, AllBased}
 use Rattle.step_core.proofs.RunFactsBases.{AreSame, has_same, BaseHolds, base_same, FitsBase, based_of, has_later}
 use Rattle.step_core.proofs.RunFactsDaemon.{next_number, WorkFits, DaemonHolds, opening_some}
-use Rattle.step_core.proofs.SegmentEnded.{after_update_newest}
 
 -- ---- what the daemon has of bases
 

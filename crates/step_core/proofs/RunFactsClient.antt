@@ -3,15 +3,15 @@ use Rattle.std.proofs.Common.{◌≡◌, ◌≢◌, ℕ, ◌+◌, ◌-◌, ◌�
 use Rattle.std.specs.Prelude.{◌==◌, ◌||◌, not, nat_le, nat_lt, if◌then◌else◌}
 use Rattle.std.proofs.lemmas.Bool.Decides.{nat_tests}
 use Rattle.clock_gate.specs.declared.trace.Trace.{Trace}
+use Rattle.clock_gate.specs.ClockRow.{row_at}
+use Rattle.vmclock_page.specs.Host.{count_of}
+use Rattle.segment_run.specs.SegmentRun.{SegmentRun, header_shown, number_shown, number_at}
 use Rattle.interval_now.specs.declared.answers.Interval.{Interval}
 use Rattle.interval_now.specs.declared.answers.Causality.{Causality}
 use Rattle.interval_now.specs.Interval.{interval_of}
-use Rattle.vmclock_page.specs.Host.{count_of}
-use Rattle.clock_gate.specs.ClockRow.{row_at}
 use Rattle.step_core.specs.declared.event.Event.{Event}
 use Rattle.step_core.specs.RunHost.{HostRun, clocks_at, page_shown, marker_of, sequence_of}
 use Rattle.step_core.specs.RunPage.{PageAfter, Looks, Saw, Missed, page_load, is_marker_next}
-use Rattle.step_core.specs.RunSegment.{SegmentRun, header_shown, number_shown, number_at}
 use Rattle.step_core.specs.RunDaemon.{marked_by}
 use Rattle.step_core.specs.RunClient as run_client
 use Rattle.step_core.specs.RunClient.{SegmentTry, SegmentReading, SegmentAfter, Reads, IsWhole, Unpublished, AllFailed, segment_try_fails, segment_load_by, segment_last_load, segment_load, segment_reading, Clocked, CallStage, Reading, Clocking, Paging, Answered, CallAfter, Goes, Answers, CallRun, ClientRun, ClientTurn}

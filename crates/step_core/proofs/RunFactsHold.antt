@@ -11,15 +11,15 @@ use Rattle.clock_gate.specs.declared.trace.Party.{Party}
 use Rattle.clock_gate.specs.declared.trace.Party.TheVariants.{Host, Daemon, Client}
 use Rattle.clock_gate.specs.declared.trace.Trace.{Trace}
 use Rattle.clock_gate.specs.Trace.{IsLawfulTrace}
+use Rattle.vmclock_page.specs.Host.{count_of}
 use Rattle.segment_layout.specs.declared.start.Start.{Start}
 use Rattle.segment_layout.specs.declared.start.Start.TheVariants.{Fresh, Kept, Torn}
 use Rattle.segment_layout.specs.Image.{start_of}
-use Rattle.vmclock_page.specs.Host.{count_of}
+use Rattle.segment_run.specs.SegmentRun.{SegmentRun, segment_by}
 use Rattle.step_core.specs.declared.event.Event.{Event}
 use Rattle.step_core.specs.declared.event.Event.TheVariants as events
 use Rattle.step_core.specs.Run.{Run, turn, start, client_start, with_daemon, with_client, answer_events, client_turn_in}
 use Rattle.step_core.specs.RunHost.{HostRun, row_turn, host_turn}
-use Rattle.step_core.specs.RunSegment.{SegmentRun, segment_by}
 use Rattle.step_core.specs.RunDaemon.{Work, Resting, Opening, Asking, Looking, Taking, Writing, DaemonRun, DaemonTurn, daemon_turn}
 use Rattle.step_core.specs.RunClient as run_client
 use Rattle.step_core.specs.RunClient.{Answered, ClientRun}

@@ -2,18 +2,19 @@
 use Rattle.std.proofs.Common.{◌≡◌, ℕ, zero, suc, ◌+◌, List, ◌∷◌, ◌++◌, length, Option, Some, None, refl, sym, subst, arith}
 use Rattle.std.specs.Prelude.{reverse, slice_get, slice_index}
 use Rattle.std.proofs.lemmas.List.{reverse-append}
+use Rattle.generation_word.specs.Header.{header_of}
 use Rattle.clock_gate.specs.declared.trace.Party.{Party}
 use Rattle.clock_gate.specs.declared.trace.Party.TheVariants.{Host, Daemon, Client}
 use Rattle.clock_gate.specs.declared.trace.Trace.{Trace}
+use Rattle.vmclock_page.specs.Host.{count_of}
 use Rattle.segment_layout.specs.declared.start.Start.{Start}
 use Rattle.segment_layout.specs.declared.start.Start.TheVariants.{Fresh, Kept, Torn}
-use Rattle.generation_word.specs.Header.{header_of}
 use Rattle.segment_layout.specs.Image.{start_of}
-use Rattle.vmclock_page.specs.Host.{count_of}
+use Rattle.segment_run.specs.SegmentRun.{SegmentRun, segment_by}
+use Rattle.segment_run.proofs.SegmentStart.{kept_number}
 use Rattle.step_core.specs.declared.event.Event.{Event}
 use Rattle.step_core.specs.declared.event.Event.TheVariants as events
 use Rattle.step_core.specs.Run.{Run, turn, start, with_client, answer_events, client_turn_in}
-use Rattle.step_core.specs.RunSegment.{SegmentRun, segment_by}
 use Rattle.step_core.specs.RunDaemon.{DaemonRun, daemon_turn}
 use Rattle.step_core.specs.RunClient as run_client
 use Rattle.step_core.specs.RunClient.{Answered, ClientRun, ClientTurn}
@@ -22,7 +23,6 @@ use Rattle.step_core.specs.RunFacts.{RunsTell}
 use Rattle.step_core.proofs.RunKeeps.{run_keeps}
 use Rattle.step_core.proofs.RunFactsHold.{RunHolds, turn_holds, start_holds}
 use Rattle.step_core.proofs.RunFactsBaseTurn.{Based, based_same, daemon_based}
-use Rattle.step_core.proofs.SegmentStart.{kept_number}
 
 abbrev RunBased : Trace → Run → Type 0
 RunBased trace run = Based trace run.segment run.daemon (reverse run.events)

@@ -7,6 +7,7 @@ use Rattle.clock_gate.specs.declared.trace.Trace.{Trace}
 use Rattle.clock_gate.specs.declared.trace.Turn.{Turn}
 use Rattle.clock_gate.specs.declared.trace.Turn.TheVariants as turns
 use Rattle.clock_gate.specs.Trace.{IsLawfulTrace, times}
+use Rattle.segment_run.specs.SegmentRun.{SegmentRun}
 use Rattle.interval_now.specs.Call.{Call}
 use Rattle.step_core.specs.declared.limits.TheConstants.{MOST_JOB_STEPS}
 use Rattle.step_core.specs.declared.hand.Hand.{Hand}
@@ -15,7 +16,6 @@ use Rattle.step_core.specs.declared.marks.Marks.{Marks}
 use Rattle.step_core.specs.Schedule as schedule
 use Rattle.step_core.specs.Run.{Run, turn, start}
 use Rattle.step_core.specs.RunHost.{HostRun}
-use Rattle.step_core.specs.RunSegment.{SegmentRun}
 use Rattle.step_core.specs.RunDaemon.{Work, Resting, Opening, Asking, Looking, Taking, Writing, DaemonRun}
 use Rattle.step_core.specs.RunClient.{CallRun, ClientRun}
 use Rattle.step_core.specs.RunWhole as whole
@@ -28,8 +28,8 @@ use Rattle.step_core.specs.SharedClient.{ClientState}
 use Rattle.step_core.specs.ShowsDaemon.{ShowsWork}
 use Rattle.step_core.specs.ShowsClient.{ShowsCallOf}
 use Rattle.step_core.specs.Shows.{Shows}
-use Rattle.step_core.proofs.ClientLater.{ShowsClientOf}
 use Rattle.step_core.specs.SharedReady.{IsGiven}
+use Rattle.step_core.proofs.ClientLater.{ShowsClientOf}
 use Rattle.step_core.proofs.Turn.{client_of, turn_shows, start_shows}
 
 -- ---- jobs

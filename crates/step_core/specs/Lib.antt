@@ -10,7 +10,6 @@ pub mod Ready
 pub mod Shared
 pub mod RunHost
 pub mod RunPage
-pub mod RunSegment
 pub mod RunDaemon
 pub mod RunClient
 pub mod Run

@@ -7,10 +7,10 @@ use Rattle.clock_gate.specs.declared.trace.Party.{Party}
 use Rattle.clock_gate.specs.declared.trace.Party.TheVariants.{Host, Daemon, Client}
 use Rattle.clock_gate.specs.declared.trace.Trace.{Trace}
 use Rattle.vmclock_page.specs.Host.{count_of}
+use Rattle.segment_run.specs.SegmentRun.{SegmentRun, segment_start}
 use Rattle.step_core.specs.declared.event.Event.{Event}
 use Rattle.step_core.specs.declared.event.Event.TheVariants as events
 use Rattle.step_core.specs.RunHost.{HostRun, host_start, host_turn}
-use Rattle.step_core.specs.RunSegment.{SegmentRun, segment_start}
 use Rattle.step_core.specs.RunDaemon.{DaemonRun, DaemonTurn, daemon_start, daemon_turn}
 use Rattle.step_core.specs.RunClient.{ClientRun, ClientTurn, Answered, client_turn}
 

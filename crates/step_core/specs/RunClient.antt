@@ -1,21 +1,21 @@
 -- A client in the abstract run: its reads of the segment, the clock and the page, step by step, and its answers with their trails.
 use Rattle.std.specs.Prelude.{ℕ, ◌+◌, ◌-◌, false, not, ◌||◌, nat_le, nat_lt, ◌==◌, if◌then◌else◌, List, [], ◌∷◌, ◌++◌, length, Option, Some, None, Result, Ok, Err}
-use Rattle.clock_gate.specs.declared.trace.Trace.{Trace}
 use Rattle.generation_word.specs.Layout.{period_of}
+use Rattle.clock_gate.specs.declared.trace.Trace.{Trace}
+use Rattle.clock_gate.specs.ClockRow.{row_at}
 use Rattle.vmclock_page.specs.Host.{count_of}
 use Rattle.segment_layout.specs.Record.{RecordFields}
 use Rattle.segment_layout.specs.Words.{fields_of_words}
 use Rattle.segment_layout.specs.History.{last_store}
+use Rattle.segment_run.specs.SegmentRun.{SegmentRun, header_shown, number_shown, number_at, published_at}
 use Rattle.interval_now.specs.declared.answers.Interval.{Interval}
 use Rattle.interval_now.specs.declared.answers.Causality.{Causality}
 use Rattle.interval_now.specs.declared.answers.Answer.{Answer}
 use Rattle.interval_now.specs.declared.answers.Answer.TheVariants as answers
 use Rattle.interval_now.specs.Interval.{interval_of}
-use Rattle.clock_gate.specs.ClockRow.{row_at}
 use Rattle.step_core.specs.declared.event.Trail.{Trail}
 use Rattle.step_core.specs.RunHost.{HostRun, clocks_at, page_shown, marker_of, sequence_of}
 use Rattle.step_core.specs.RunPage.{PageReading, PageAfter, Looks, Saw, Missed, page_reading, page_load, is_marker_next}
-use Rattle.step_core.specs.RunSegment.{SegmentRun, header_shown, number_shown, number_at, published_at}
 use Rattle.step_core.specs.RunDaemon.{marked_by}
 
 -- ---- a read of the segment

@@ -13,11 +13,11 @@ use Rattle.status_machine.specs.declared.base.Base.{Base}
 use Rattle.status_machine.specs.declared.poll.Poll.{Poll}
 use Rattle.status_machine.specs.Incarnation.{Incarnation, base_at, record_at}
 use Rattle.status_machine.specs.Poll.{heard_of}
+use Rattle.segment_run.specs.SegmentRun.{SegmentRun, is_old, start_found, opening_length, opening_effect, number_shown, number_at, stored}
 use Rattle.step_core.specs.declared.event.Event.{Event}
 use Rattle.step_core.specs.declared.event.Event.TheVariants.{Opened, Moved, Published, Skipped, Stopped}
 use Rattle.step_core.specs.RunHost.{HostRun, clocks_at, page_shown, marker_of, sequence_of}
 use Rattle.step_core.specs.RunPage.{PageReading, PageAfter, Looks, Saw, Missed, page_reading, page_load, is_marker_next}
-use Rattle.step_core.specs.RunSegment.{SegmentRun, is_old, start_found, opening_length, opening_effect, number_shown, number_at, stored}
 
 -- an incarnation with its polls whose reply was taken, the newest first; skipped polls aren't among them
 pub record Life : Type 0 where

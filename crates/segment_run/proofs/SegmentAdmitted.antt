@@ -8,10 +8,9 @@ use Rattle.segment_layout.specs.declared.start.Start.TheVariants.{Fresh, Kept, T
 use Rattle.segment_layout.specs.Words.{record_words}
 use Rattle.segment_layout.specs.Image.{IsHeaderFor, HasGeneration, HoldsNothing, IsImageOf, image_of}
 use Rattle.segment_layout.proofs.Admitted.{image_of-only}
-use Rattle.step_core.specs.RunSegment.{SegmentRun, header_shown, number_shown, published_at, start_found}
-use Rattle.step_core.specs.ShowsSegment.{ShowsSegment}
-use Rattle.step_core.proofs.SegmentHeader.{number_at_rest, number_in_update, number_even, number_positive, header_of_published, header_in_update}
-use Rattle.step_core.proofs.SegmentOpening.{magic_of_header}
+use Rattle.segment_run.specs.SegmentRun.{SegmentRun, header_shown, number_shown, published_at, start_found}
+use Rattle.segment_run.specs.ShowsSegment.{ShowsSegment}
+use Rattle.segment_run.proofs.SegmentHeader.{number_at_rest, number_in_update, number_even, number_positive, header_of_published, header_in_update, magic_of_header}
 
 first_ten : (words : List ℕ) (word : ℕ) → word < 10 → slice_index (take 10 words) word ≡ slice_index words word
 first_ten words word low = get_or-take 10 words word 0 low

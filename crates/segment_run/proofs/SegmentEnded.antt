@@ -10,10 +10,9 @@ use Rattle.segment_layout.specs.Image.{IsHeaderFor}
 use Rattle.segment_layout.specs.Record.{RecordFields, KeepsBounds}
 use Rattle.segment_layout.specs.Words.{record_words, flag_of}
 use Rattle.segment_layout.specs.History.{Begun}
-use Rattle.step_core.specs.RunSegment.{SegmentRun, header_shown, number_at, number_shown, published_at, no_publication, headed}
-use Rattle.step_core.specs.ShowsSegment.{HoldsWords, IsSegment}
-use Rattle.step_core.proofs.Later.{IsSegmentLater}
-use Rattle.step_core.proofs.SegmentHeader.{own_header, own_header_some}
+use Rattle.segment_run.specs.SegmentRun.{SegmentRun, header_shown, number_at, number_shown, published_at, no_publication, headed}
+use Rattle.segment_run.specs.ShowsSegment.{HoldsWords, IsSegment, IsSegmentLater}
+use Rattle.segment_run.proofs.SegmentHeader.{own_header, own_header_some}
 
 abbrev pub KeepsBoundsOf : RecordFields → Type 0
 KeepsBoundsOf rec = KeepsBounds rec.as_of rec.void_after rec.bound rec.drift
@@ -84,7 +83,7 @@ after_update segment publication begun =
     record segment { position = segment.position + 1; is_writing = false; history = segment.history ++ publication ∷ []; begun = begun }
 
 -- what was published before stays
-pub after_update_before : (segment : SegmentRun) (publication : Publication) (begun : List Begun) (position : ℕ) → length segment.history + segment.base ≡ segment.position → segment.base < position → position ≤ segment.position
+after_update_before : (segment : SegmentRun) (publication : Publication) (begun : List Begun) (position : ℕ) → length segment.history + segment.base ≡ segment.position → segment.base < position → position ≤ segment.position
     → published_at (after_update segment publication begun) position ≡ published_at segment position
 after_update_before segment publication begun position known above below =
     get_or_append_left segment.history (publication ∷ []) no_publication (position - segment.base - 1) (omega (arith, known, above, below))

@@ -12,6 +12,7 @@ use Rattle.generation_word.specs.Layout.{period_of}
 use Rattle.generation_word.specs.Numbering.{generation_at}
 use Rattle.generation_word.specs.Header.{word1_of, header_of}
 use Rattle.generation_word.proofs.HeaderLaws.{made_two, made_three}
+use Rattle.generation_word.specs.Header.{generation_in}
 use Rattle.segment_layout.specs.declared.words.TheConstants.{MAGIC}
 use Rattle.segment_layout.specs.declared.publication.Publication.{Publication}
 use Rattle.segment_layout.specs.declared.start.Start.{Start}
@@ -22,12 +23,11 @@ use Rattle.segment_layout.specs.Record.{RecordFields, KeepsBounds}
 use Rattle.segment_layout.specs.Words.{record_words, data_words, AreGoodWords, fields_of_words}
 use Rattle.segment_layout.specs.Image.{IsHeaderFor, first_fault, has_magic, reads_version, header_tests, data_tests, unless, start_at, image_of, start_by, generation_of_start}
 use Rattle.segment_layout.specs.History.{Begun, last_store}
-use Rattle.writer_reopen.specs.Opening.{generation_in}
 use Rattle.segment_layout.proofs.Admitted.{good_from_tests, image_of-start}
 use Rattle.segment_layout.proofs.Back.{data_words-fields_of_words}
-use Rattle.step_core.specs.RunSegment.{SegmentRun, start_found, header_shown, number_shown, published_at, image_publication, no_publication, segment_of_image, segment_by, segment_start}
-use Rattle.step_core.specs.ShowsSegment.{HoldsWords, IsSegment, ShowsSegment}
-use Rattle.step_core.proofs.SegmentHeader.{header_tells, own_header_some}
+use Rattle.segment_run.specs.SegmentRun.{SegmentRun, start_found, header_shown, number_shown, published_at, image_publication, no_publication, segment_of_image, segment_by, segment_start}
+use Rattle.segment_run.specs.ShowsSegment.{HoldsWords, IsSegment, ShowsSegment}
+use Rattle.segment_run.proofs.SegmentHeader.{header_tells, own_header_some}
 
 -- ---- what an admitted image holds
 

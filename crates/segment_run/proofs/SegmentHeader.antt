@@ -1,18 +1,18 @@
 -- What the header of a segment tells.
-use Rattle.std.proofs.Common.{◌≡◌, ◌≢◌, ℕ, ◌+◌, ◌*◌, ◌/◌, ◌%◌, ◌^◌, ◌<◌, true, false, refl, ap, sym, ◌∙◌, arith, inl, inr}
-use Rattle.std.specs.Prelude.{◌⊎◌}
+use Rattle.std.proofs.Common.{◌≡◌, ◌≢◌, ℕ, ◌+◌, ◌*◌, ◌/◌, ◌%◌, ◌^◌, ◌<◌, true, false, refl, ap, sym, ◌∙◌, arith, inl, inr, List}
+use Rattle.std.specs.Prelude.{◌⊎◌, slice_index}
 use Rattle.generation_word.specs.declared.header.TheConstants.{LOW_HALF_THREE}
 use Rattle.generation_word.specs.declared.layout.Layout.{Layout}
 use Rattle.generation_word.specs.declared.layout.Layout.TheVariants.{Two, Three}
-use Rattle.generation_word.specs.Header.{word1_of, header_of}
+use Rattle.generation_word.specs.Header.{word1_of, header_of, generation_in}
 use Rattle.generation_word.specs.Layout.{period_of}
 use Rattle.generation_word.proofs.Laws.{generation_at-even, generation_at_positive}
 use Rattle.segment_layout.specs.Image.{IsHeaderFor}
-use Rattle.shm_reader.specs.SegmentTries.{generation_in}
-use Rattle.step_core.specs.RunSegment.{SegmentRun, number_at, number_shown, header_shown}
-use Rattle.step_core.specs.ShowsSegment.{IsSegment}
+use Rattle.segment_layout.specs.declared.words.TheConstants.{MAGIC}
+use Rattle.segment_run.specs.SegmentRun.{SegmentRun, number_at, number_shown, header_shown}
+use Rattle.segment_run.specs.ShowsSegment.{IsSegment, ShowsSegment}
 
-pub told_two : (g : ℕ) → header_of (word1_of Two g) ≡ (80, 2, g)
+told_two : (g : ℕ) → header_of (word1_of Two g) ≡ (80, 2, g)
 told_two g =
     let low : (80 + 2 * 2 ^ 32 + g * 2 ^ 48) % 2 ^ 32 ≡ 80 = omega arith in
     let version : (80 + 2 * 2 ^ 32 + g * 2 ^ 48) / 2 ^ 32 % 2 ^ 16 ≡ 2 = omega arith in
@@ -85,3 +85,10 @@ header_of_published segment is some = header_by segment (header_shown segment) (
 
 pub header_in_update : (segment : SegmentRun) → IsSegment segment → segment.is_writing ≡ true → IsHeaderFor segment.layout (header_shown segment) (number_shown segment)
 header_in_update segment is writes = header_by segment (header_shown segment) (λ zero. (let none = (is.none zero).1 in absurd (cc (none, writes)))) is.header
+
+-- word 0 is the magic where word 1 is not 0
+pub magic_of_header : (segment : SegmentRun) (words : List ℕ) → ShowsSegment segment words → header_shown segment ≢ 0 → slice_index words 0 ≡ MAGIC
+magic_of_header segment words shows some = magic_by (slice_index words 0) (slice_index words 1) (λ none. some (sym shows.header ∙ none)) shows.magic where
+  magic_by : (first header : ℕ) → header ≢ 0 → (first ≡ MAGIC) ⊎ ((first ≡ 0) × (header ≡ 0)) → first ≡ MAGIC
+  magic_by first header not_zero (inl is) = is
+  magic_by first header not_zero (inr none) = absurd (not_zero none.1)
