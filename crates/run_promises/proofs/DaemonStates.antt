@@ -11,11 +11,11 @@ use Rattle.status_machine.specs.declared.base.Base.{Base}
 use Rattle.status_machine.specs.Incarnation.{base_at}
 use Rattle.status_machine.proofs.BaseMarker.{marker_before}
 use Rattle.segment_run.specs.SegmentRun.{SegmentRun}
-use Rattle.step_core.specs.declared.event.Event.{Event}
-use Rattle.step_core.specs.declared.event.Event.TheVariants.{Published}
-use Rattle.step_core.specs.RunHost.{HostRun}
-use Rattle.step_core.specs.RunDaemon.{Life, Work, Resting, Opening, Asking, Looking, Taking, Writing, DaemonRun}
-use Rattle.step_core.specs.RunFacts.{EndedAs, told_at, told_by}
+use Rattle.abstract_run.specs.declared.event.Event.{Event}
+use Rattle.abstract_run.specs.declared.event.Event.TheVariants.{Published}
+use Rattle.abstract_run.specs.RunHost.{HostRun}
+use Rattle.abstract_run.specs.RunDaemon.{Life, Work, Resting, Opening, Asking, Looking, Taking, Writing, DaemonRun}
+use Rattle.abstract_run.specs.RunFacts.{EndedAs, told_at, told_by}
 use Rattle.run_promises.specs.Told.{marker_at, IsMarked, IsMarkOf, KeepsMarker, AllMarked, IsFresh, KnowsPoll}
 use Rattle.run_promises.proofs.Marks.{BaseMarked, LifeMarked, LifeKnown}
 use Rattle.run_promises.proofs.PageReads.{LookFits}

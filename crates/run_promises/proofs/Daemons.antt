@@ -19,16 +19,16 @@ use Rattle.status_machine.specs.Incarnation as incarnation
 use Rattle.status_machine.specs.Incarnation.{base_at, start_base, base_by_status, since_disrupted, is_unabsorbed, is_disrupted, status_by}
 use Rattle.status_machine.proofs.BaseMarker.{marker_before}
 use Rattle.segment_run.specs.SegmentRun.{SegmentRun, opening_effect, opening_length, headed, opened_update, moved_once, stored, is_old, is_old_in, start_found, one_store_more, number_shown, published_at}
-use Rattle.step_core.specs.RunWhole.{is_resting}
-use Rattle.step_core.specs.declared.event.Event.{Event}
-use Rattle.step_core.specs.declared.event.Event.TheVariants.{Opened, Moved, Published, Skipped, Stopped}
-use Rattle.step_core.specs.RunHost.{HostRun, clocks_at, pages_at, page_shown, marker_of}
-use Rattle.step_core.specs.RunPage.{PageAfter, Looks, Saw, Missed, page_load, is_marker_next}
-use Rattle.step_core.specs.RunDaemon as run_daemon
-use Rattle.step_core.specs.RunDaemon.{Life, Asked, Storing, Work, Resting, Opening, Asking, Looking, Taking, Writing, DaemonRun, DaemonTurn, daemon_turn, marked_by, base_number}
-use Rattle.step_core.specs.RunFacts.{EndedAs, told_at, AllEarlier}
-use Rattle.step_core.specs.RunHost.{marker_by}
-use Rattle.step_core.proofs.RunFactsDaemon.{next_number, WorkFits, opening_some}
+use Rattle.abstract_run.specs.RunWhole.{is_resting}
+use Rattle.abstract_run.specs.declared.event.Event.{Event}
+use Rattle.abstract_run.specs.declared.event.Event.TheVariants.{Opened, Moved, Published, Skipped, Stopped}
+use Rattle.abstract_run.specs.RunHost.{HostRun, clocks_at, pages_at, page_shown, marker_of}
+use Rattle.abstract_run.specs.RunPage.{PageAfter, Looks, Saw, Missed, page_load, is_marker_next}
+use Rattle.abstract_run.specs.RunDaemon as run_daemon
+use Rattle.abstract_run.specs.RunDaemon.{Life, Asked, Storing, Work, Resting, Opening, Asking, Looking, Taking, Writing, DaemonRun, DaemonTurn, daemon_turn, marked_by, base_number}
+use Rattle.abstract_run.specs.RunFacts.{EndedAs, told_at, AllEarlier}
+use Rattle.abstract_run.specs.RunHost.{marker_by}
+use Rattle.abstract_run.proofs.RunFactsDaemon.{next_number, WorkFits, opening_some}
 use Rattle.run_promises.specs.Told.{marker_at, IsMarkOf, KeepsMarker, AllMarked, IsFresh, KnowsPoll}
 use Rattle.run_promises.proofs.PollNumbers.{Numbered, IsBegun}
 use Rattle.run_promises.proofs.Marks.{BaseMarked, LifeMarked, poll_marked, BaseKnown, poll_known}

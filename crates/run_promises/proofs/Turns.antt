@@ -17,17 +17,17 @@ use Rattle.segment_layout.specs.Image.{start_of}
 use Rattle.segment_layout.proofs.Admitted.{image_of-start}
 use Rattle.segment_run.specs.SegmentRun.{SegmentRun, segment_by, image_publication, no_publication}
 use Rattle.segment_run.proofs.SegmentStart.{kept_number}
-use Rattle.step_core.specs.declared.event.Event.{Event}
-use Rattle.step_core.specs.declared.event.Event.TheVariants as events
-use Rattle.step_core.specs.Run.{Run, turn, turns_by, start, with_client, answer_events, client_turn_in}
-use Rattle.step_core.specs.RunHost.{HostRun, pages_at, row_turn, host_turn}
-use Rattle.step_core.specs.RunDaemon.{Life, Work, Resting, Opening, Asking, Looking, Taking, Writing, DaemonRun, daemon_turn}
-use Rattle.step_core.specs.RunClient as run_client
-use Rattle.step_core.specs.RunClient.{Answered, ClientRun, ClientTurn}
-use Rattle.step_core.specs.SharedReady.{CanRun}
-use Rattle.step_core.proofs.RunFactsClient.{CallFits}
-use Rattle.step_core.proofs.RunFactsHold.{AllFit, RunHolds, turn_holds, start_holds}
-use Rattle.step_core.proofs.RunFactsBaseTurn.{Based, based_same, daemon_based}
+use Rattle.abstract_run.specs.declared.event.Event.{Event}
+use Rattle.abstract_run.specs.declared.event.Event.TheVariants as events
+use Rattle.abstract_run.specs.Run.{Run, turn, turns_by, start, with_client, answer_events, client_turn_in}
+use Rattle.abstract_run.specs.RunHost.{HostRun, pages_at, row_turn, host_turn}
+use Rattle.abstract_run.specs.RunDaemon.{Life, Work, Resting, Opening, Asking, Looking, Taking, Writing, DaemonRun, daemon_turn}
+use Rattle.abstract_run.specs.RunClient as run_client
+use Rattle.abstract_run.specs.RunClient.{Answered, ClientRun, ClientTurn}
+use Rattle.abstract_run.specs.Given.{CanRun}
+use Rattle.abstract_run.proofs.RunFactsClient.{CallFits}
+use Rattle.abstract_run.proofs.RunFactsHold.{AllFit, RunHolds, turn_holds, start_holds}
+use Rattle.abstract_run.proofs.RunFactsBaseTurn.{Based, based_same, daemon_based}
 use Rattle.run_promises.specs.Told.{KnowsPoll}
 use Rattle.run_promises.proofs.PollNumbers.{Numbered, turn_numbered}
 use Rattle.run_promises.proofs.PageReads.{turn_pages, look_later}

@@ -24,19 +24,20 @@ use Rattle.interval_now.specs.declared.stage.Stage.TheVariants as stages
 use Rattle.interval_now.specs.Call as calls
 use Rattle.interval_now.specs.Call.{Call}
 use Rattle.interval_now.specs.Interval.{interval_of}
+use Rattle.abstract_run.specs.Run.{answer_events}
+use Rattle.abstract_run.specs.RunHost.{HostRun, clocks_at, page_shown, marker_of, sequence_of}
+use Rattle.abstract_run.specs.RunPage.{PageReading, PageAfter, Looks, Saw, Missed, page_load, is_marker_next}
+use Rattle.abstract_run.specs.RunDaemon.{marked_by}
+use Rattle.abstract_run.specs.RunClient.{SegmentTry, SegmentReading, SegmentAfter, Reads, IsWhole, Unpublished, AllFailed, segment_load, segment_reading, WholeRead, Clocked, CallStage, Reading, Clocking, Paging, CallAfter, Goes, Answers}
+use Rattle.abstract_run.specs.RunClient as run_client
+use Rattle.abstract_run.specs.RunClient.{CallRun, ClientRun}
+use Rattle.abstract_run.specs.Given.{AreRows}
 use Rattle.step_core.specs.declared.marks.Marks.{Marks}
 use Rattle.step_core.specs.declared.marks.Place.{Place}
-use Rattle.step_core.specs.Run.{answer_events}
-use Rattle.step_core.specs.RunHost.{HostRun, clocks_at, page_shown, marker_of, sequence_of}
-use Rattle.step_core.specs.RunPage.{PageReading, PageAfter, Looks, Saw, Missed, page_load, is_marker_next}
-use Rattle.step_core.specs.RunDaemon.{marked_by}
-use Rattle.step_core.specs.RunClient.{SegmentTry, SegmentReading, SegmentAfter, Reads, IsWhole, Unpublished, AllFailed, segment_load, segment_reading, WholeRead, Clocked, CallStage, Reading, Clocking, Paging, CallAfter, Goes, Answers}
-use Rattle.step_core.specs.RunClient as run_client
-use Rattle.step_core.specs.RunClient.{CallRun, ClientRun}
 use Rattle.step_core.specs.SharedWords.{value_of}
 use Rattle.step_core.specs.SharedClient as shared_client
 use Rattle.step_core.specs.SharedClient.{ClientState, noted, noted_load, trail_of, client_turned, client_stepped, client_ready, client_act}
-use Rattle.step_core.specs.ShowsHost.{AreRows, ShowsHost, ShowsPageRead}
+use Rattle.step_core.specs.ShowsHost.{ShowsHost, ShowsPageRead}
 use Rattle.step_core.specs.ShowsSegment.{ShowsSegmentRead}
 use Rattle.step_core.specs.ShowsClient.{IsFirstAt, IsReadAt, IsClockedAt, ShowsStage, ShowsCall, ShowsCallOf, AreTries, ShowsClient}
 use Rattle.step_core.proofs.Later.{ShowsSegmentAfter, ShowsPageAfter}

@@ -12,12 +12,12 @@ use Rattle.segment_run.proofs.SegmentStart.{segment_start_told}
 use Rattle.writer_reopen.specs.declared.order.Order.{Order}
 use Rattle.writer_reopen.specs.declared.stage.Stage.{Stage}
 use Rattle.writer_reopen.specs.declared.stage.Stage.TheVariants as stages
+use Rattle.abstract_run.specs.RunHost.{HostRun}
+use Rattle.abstract_run.specs.RunDaemon as run_daemon
+use Rattle.abstract_run.specs.RunDaemon.{Life, Work, Resting, Opening, Asking, Looking, Taking, Writing, DaemonRun}
 use Rattle.step_core.specs.declared.hand.Hand.{Hand}
 use Rattle.step_core.specs.declared.hand.Hand.TheVariants as hands
 use Rattle.step_core.specs.declared.marks.PollMarks.{PollMarks}
-use Rattle.step_core.specs.RunHost.{HostRun}
-use Rattle.step_core.specs.RunDaemon as run_daemon
-use Rattle.step_core.specs.RunDaemon.{Life, Work, Resting, Opening, Asking, Looking, Taking, Writing, DaemonRun}
 use Rattle.step_core.specs.SharedDaemon as shared_daemon
 use Rattle.step_core.specs.SharedDaemon.{DaemonState}
 use Rattle.step_core.specs.ShowsDaemon.{ShowsPoll, ShowsWork, HasMagicIn, HasMagicWhile, HasMagicFor, ShowsDaemon}

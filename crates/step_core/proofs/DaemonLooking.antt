@@ -20,14 +20,15 @@ use Rattle.writer_reopen.specs.declared.order.Order.{Order}
 use Rattle.writer_reopen.specs.declared.stage.Stage.TheVariants as stages
 use Rattle.writer_reopen.specs.PollMachine.{looking_by, stage_seen, stage_looked, polling_act, polling_given}
 use Rattle.writer_reopen.specs.Progress as poll_progress
+use Rattle.abstract_run.specs.RunHost.{HostRun, page_shown, marker_of, sequence_of}
+use Rattle.abstract_run.specs.RunPage.{PageReading, PageAfter, Looks, Saw, Missed, page_reading, page_load, is_marker_next}
+use Rattle.abstract_run.specs.RunDaemon.{Life, Asked, Looking, Taking, DaemonRun, poll_row, look_by, daemon_turn_by, marked_by, ask_by}
+use Rattle.abstract_run.specs.Given.{AreRows}
 use Rattle.step_core.specs.declared.hand.Polling.{Polling}
 use Rattle.step_core.specs.declared.marks.PollMarks.{PollMarks}
-use Rattle.step_core.specs.RunHost.{HostRun, page_shown, marker_of, sequence_of}
-use Rattle.step_core.specs.RunPage.{PageReading, PageAfter, Looks, Saw, Missed, page_reading, page_load, is_marker_next}
-use Rattle.step_core.specs.RunDaemon.{Life, Asked, Looking, Taking, DaemonRun, poll_row, look_by, daemon_turn_by, marked_by, ask_by}
 use Rattle.step_core.specs.SharedWords.{after_act, value_of}
 use Rattle.step_core.specs.SharedDaemon.{DaemonState, polling_by, polling_with, polling_after, noted_clock, noted_poll}
-use Rattle.step_core.specs.ShowsHost.{AreRows, ShowsHost, ShowsPageRead}
+use Rattle.step_core.specs.ShowsHost.{ShowsHost, ShowsPageRead}
 use Rattle.step_core.specs.ShowsDaemon.{IsAlive, ShowsResumed, IsUntaken, IsMarkedAt}
 use Rattle.step_core.proofs.Later.{ShowsPageAfter}
 use Rattle.step_core.proofs.HostKeeps.{page_read_new}

@@ -12,11 +12,11 @@ use Rattle.segment_run.specs.SegmentRun.{SegmentRun, is_old_in, opening_length, 
 use Rattle.segment_run.specs.ShowsSegment.{ShowsSegment, IsSegmentLater}
 use Rattle.writer_reopen.specs.declared.opening.Opening.{Opening as Opened}
 use Rattle.writer_reopen.specs.Opening.{OpenerState, opening_steps, opening_act, opening_given, opening_end}
+use Rattle.abstract_run.specs.RunHost.{HostRun}
+use Rattle.abstract_run.specs.RunDaemon as run_daemon
+use Rattle.abstract_run.specs.RunDaemon.{Opening, DaemonRun, is_move, opening_ends, opening_step}
 use Rattle.step_core.specs.declared.hand.Hand.TheVariants as hands
 use Rattle.step_core.specs.declared.hand.Job.{Job}
-use Rattle.step_core.specs.RunHost.{HostRun}
-use Rattle.step_core.specs.RunDaemon as run_daemon
-use Rattle.step_core.specs.RunDaemon.{Opening, DaemonRun, is_move, opening_ends, opening_step}
 use Rattle.step_core.specs.SharedWords.{after_act, value_of}
 use Rattle.step_core.specs.SharedDaemon.{DaemonState, opening_by, opening_with}
 use Rattle.step_core.specs.ShowsDaemon.{IsJob, HasMagicIn, HasMagicFor}

@@ -27,9 +27,9 @@ use Rattle.writer_reopen.specs.declared.opening.Opening.{Opening as Opened}
 use Rattle.writer_reopen.specs.Opening.{OpenerState, is_old, moved_to, opening_steps, opening_for, opening_of, opening_act, opening_given, opening_end}
 use Rattle.writer_reopen.proofs.InOrder.{ended_past, end_of_asking}
 use Rattle.writer_reopen.proofs.Openings.{steps_no_end, act-of_loaded, answer_at_end}
+use Rattle.abstract_run.specs.RunHost.{HostRun}
+use Rattle.abstract_run.specs.RunDaemon.{DaemonRun, life_from, is_move, opening_ends}
 use Rattle.step_core.specs.declared.hand.Job.{Job}
-use Rattle.step_core.specs.RunHost.{HostRun}
-use Rattle.step_core.specs.RunDaemon.{DaemonRun, life_from, is_move, opening_ends}
 use Rattle.step_core.specs.SharedDaemon.{DaemonState, opening_by}
 use Rattle.step_core.specs.ShowsDaemon.{IsWhere, IsJob, given_after, HasMagicIn}
 use Rattle.step_core.proofs.SegmentOpen.{IsInOpening, steps_for, number_left, steps_are}

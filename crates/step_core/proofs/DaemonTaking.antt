@@ -29,10 +29,10 @@ use Rattle.writer_reopen.specs.declared.stage.Sight.{Sight}
 use Rattle.writer_reopen.specs.declared.stage.Stage.TheVariants as stages
 use Rattle.writer_reopen.specs.Poll as poll_specs
 use Rattle.writer_reopen.specs.Poll.{marker_seen, sequence_seen, poll_for, daemon_for, publication_for, taken_for}
+use Rattle.abstract_run.specs.RunHost.{HostRun}
+use Rattle.abstract_run.specs.RunDaemon.{Life, Asked, Storing, DaemonRun, poll_row, poll_of, base_number, publication_of, taken}
 use Rattle.step_core.specs.declared.hand.Polling.{Polling}
 use Rattle.step_core.specs.declared.marks.PollMarks.{PollMarks}
-use Rattle.step_core.specs.RunHost.{HostRun}
-use Rattle.step_core.specs.RunDaemon.{Life, Asked, Storing, DaemonRun, poll_row, poll_of, base_number, publication_of, taken}
 use Rattle.step_core.specs.SharedDaemon.{DaemonState, polling_with, polling_after, noted_clock}
 use Rattle.step_core.specs.ShowsDaemon.{IsWhere, IsAlive, IsOrder, IsMarkedAt}
 use Rattle.step_core.proofs.DaemonFits.{moment_most, step_fits, record_bounds}

@@ -24,18 +24,19 @@ use Rattle.writer_reopen.specs.declared.stage.Stage.TheVariants as stages
 use Rattle.writer_reopen.specs.declared.stage.Taken.{Taken}
 use Rattle.writer_reopen.specs.Opening.{OpenerState, opening_act}
 use Rattle.writer_reopen.specs.PollMachine.{polling_act}
+use Rattle.abstract_run.specs.RunHost.{HostRun}
+use Rattle.abstract_run.specs.RunPage.{PageReading}
+use Rattle.abstract_run.specs.RunDaemon.{Life, Asked, Storing, Work, Resting, Opening, Asking, Looking, Taking, Writing, DaemonRun, no_poll, poll_row, poll_of, ask_by, taken, opening_step, poll_begins, next_poll, daemon_turn_by, daemon_turn}
+use Rattle.abstract_run.specs.Given.{AreRows}
 use Rattle.step_core.specs.declared.hand.Hand.{Hand}
 use Rattle.step_core.specs.declared.hand.Hand.TheVariants as hands
 use Rattle.step_core.specs.declared.hand.Job.{Job}
 use Rattle.step_core.specs.declared.hand.Polling.{Polling}
 use Rattle.step_core.specs.declared.hand.Resumed.{Resumed}
 use Rattle.step_core.specs.declared.marks.PollMarks.{PollMarks}
-use Rattle.step_core.specs.RunHost.{HostRun}
-use Rattle.step_core.specs.RunPage.{PageReading}
-use Rattle.step_core.specs.RunDaemon.{Life, Asked, Storing, Work, Resting, Opening, Asking, Looking, Taking, Writing, DaemonRun, no_poll, poll_row, poll_of, ask_by, taken, opening_step, poll_begins, next_poll, daemon_turn_by, daemon_turn}
 use Rattle.step_core.specs.SharedWords.{after_act, value_of}
 use Rattle.step_core.specs.SharedDaemon.{DaemonState, job_of, no_poll_marks, polling_for, hand_for, daemon_takes, daemon_ready_by, daemon_ready, hand_act, daemon_act, polling_with, polling_after, resting, daemon_after_by, daemon_after}
-use Rattle.step_core.specs.ShowsHost.{AreRows, ShowsHost}
+use Rattle.step_core.specs.ShowsHost.{ShowsHost}
 use Rattle.step_core.specs.ShowsDaemon.{IsAlive, ShowsResumed, IsJob, ShowsOpening, IsOrder, ShowsPoll, ShowsWork, ShowsIdle, ShowsDaemon, HasMagicIn, HasMagicWhile, HasMagicFor}
 use Rattle.step_core.proofs.SegmentOpen.{IsInOpening}
 use Rattle.step_core.proofs.SegmentOpening.{opening_shows, opening_begins, magic_begins}

@@ -23,13 +23,13 @@ use Rattle.writer_reopen.specs.declared.stage.Stage.TheVariants as stages
 use Rattle.writer_reopen.specs.Opening.{OpenerState}
 use Rattle.writer_reopen.specs.Poll.{marker_seen, sequence_seen}
 use Rattle.writer_reopen.specs.PollMachine.{DaemonFits}
+use Rattle.abstract_run.specs.RunHost.{HostRun}
+use Rattle.abstract_run.specs.RunDaemon.{Life, Storing, Work, Resting, Opening, Asking, Looking, Taking, Writing, DaemonRun, poll_row}
 use Rattle.step_core.specs.declared.hand.Hand.{Hand}
 use Rattle.step_core.specs.declared.hand.Hand.TheVariants as hands
 use Rattle.step_core.specs.declared.hand.Job.{Job}
 use Rattle.step_core.specs.declared.hand.Resumed.{Resumed}
 use Rattle.step_core.specs.declared.marks.PollMarks.{PollMarks}
-use Rattle.step_core.specs.RunHost.{HostRun}
-use Rattle.step_core.specs.RunDaemon.{Life, Storing, Work, Resting, Opening, Asking, Looking, Taking, Writing, DaemonRun, poll_row}
 use Rattle.step_core.specs.SharedDaemon.{DaemonState}
 use Rattle.step_core.specs.ShowsHost.{ShowsPageRead}
 

@@ -4,7 +4,7 @@ use Rattle.clock_gate.specs.Tries.{SeqlockRead}
 use Rattle.segment_layout.specs.Image.{IsHeaderFor}
 use Rattle.segment_layout.specs.Words.{data_words}
 use Rattle.segment_run.specs.SegmentRun.{SegmentRun, number_at, header_shown, published_at}
-use Rattle.step_core.specs.RunClient.{SegmentTry, SegmentReading}
+use Rattle.abstract_run.specs.RunClient.{SegmentTry, SegmentReading}
 
 -- ---- a read of the segment
 
