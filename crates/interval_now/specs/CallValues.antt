@@ -8,7 +8,7 @@ use Rattle.clock_gate.specs.declared.clock_row.ClockRow.{ClockRow}
 use Rattle.clock_gate.specs.declared.clock_row.Reading.{Reading}
 use Rattle.clock_gate.specs.Acts.{after}
 use Rattle.clock_gate.specs.ClockRow.{reading_at}
-use Rattle.clock_gate.specs.Tries.{Outcome, Unpublished, AllFailed, Found, tries_of}
+use Rattle.seqlock.specs.Tries.{Outcome, Unpublished, AllFailed, Found, tries_of}
 use Rattle.vmclock_page.specs.PageRead.{page_lock}
 use Rattle.vmclock_page.specs.Words.{count_in_word}
 use Rattle.segment_layout.specs.Record.{RecordFields}

@@ -11,9 +11,9 @@ use Rattle.std.specs.Prelude.{Some, None}
 use Rattle.std.specs.Option.{option_map}
 use Rattle.generation_word.specs.Header.{generation_in}
 use Rattle.clock_gate.specs.declared.act.Act.TheVariants.{End}
-use Rattle.clock_gate.specs.Tries.{Outcome, act_of as act_of_progress, end_of as end_of_progress}
-use Rattle.clock_gate.specs.Tries.{SeqlockRead, Progress, Asks, Ends, Unpublished, Found, IsCalm, IsStage, progress, with_value, failed_try}
-use Rattle.clock_gate.proofs.Tries as laws
+use Rattle.seqlock.specs.Tries.{Outcome, act_of as act_of_progress, end_of as end_of_progress}
+use Rattle.seqlock.specs.Tries.{SeqlockRead, Progress, Asks, Ends, Unpublished, Found, IsCalm, IsStage, progress, with_value, failed_try}
+use Rattle.seqlock.proofs.Tries as laws
 use Rattle.segment_layout.specs.Words.{IsGoodWord, AreGoodWords}
 use Rattle.shm_reader.specs.SegmentTries.{segment_lock, seen_of, act_of, given, end_of, steps_left, stands, IsGoodLoad}
 

@@ -2,8 +2,8 @@
 use Rattle.std.specs.Prelude.{◌≡◌, ◌↔◌, ℕ, List, Some}
 use Rattle.generation_word.specs.Header.{generation_in}
 use Rattle.clock_gate.specs.Acts.{Touch, Wanted, replayed}
-use Rattle.clock_gate.specs.Tries.{started}
-use Rattle.clock_gate.specs.TriedRun.{FindsWords, FindsNothing, FailsAlways}
+use Rattle.seqlock.specs.Tries.{started}
+use Rattle.seqlock.specs.TriedRun.{FindsWords, FindsNothing, FailsAlways}
 use Rattle.segment_layout.specs.Record.{RecordFields}
 use Rattle.shm_reader.specs.declared.seen.Seen.{Seen}
 use Rattle.shm_reader.specs.declared.seen.Seen.TheVariants.{Whole, Busy, NotInitialized}

@@ -5,8 +5,8 @@ use Rattle.std.specs.Option.{option_map}
 use Rattle.generation_word.specs.Header.{generation_in}
 use Rattle.clock_gate.specs.declared.act.Act.{Act}
 use Rattle.clock_gate.specs.declared.act.Act.TheVariants.{Load, Store, End}
-use Rattle.clock_gate.specs.Tries.{Seqlock, SeqlockRead, Outcome, Unpublished, AllFailed, Found, read_act, read_end}
-use Rattle.clock_gate.specs.Tries as tries
+use Rattle.seqlock.specs.Tries.{Seqlock, SeqlockRead, Outcome, Unpublished, AllFailed, Found, read_act, read_end}
+use Rattle.seqlock.specs.Tries as tries
 use Rattle.segment_layout.specs.Record.{RecordFields}
 use Rattle.segment_layout.specs.Words.{IsGoodWord, fields_of_words}
 use Rattle.shm_reader.specs.declared.seen.Seen.{Seen}

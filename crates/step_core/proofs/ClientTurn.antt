@@ -7,7 +7,7 @@ use Rattle.clock_gate.specs.declared.act.Act.TheVariants.{Load, Store, End}
 use Rattle.clock_gate.specs.declared.clock_row.Reading.{Reading as ClockReading}
 use Rattle.clock_gate.specs.declared.trace.Trace.{Trace}
 use Rattle.clock_gate.specs.ClockRow.{reading_at}
-use Rattle.clock_gate.specs.Tries.{SeqlockRead, started}
+use Rattle.seqlock.specs.Tries.{SeqlockRead, started}
 use Rattle.vmclock_page.specs.declared.page_seen.PageSeen.{PageSeen}
 use Rattle.vmclock_page.specs.Host.{Host, count_of}
 use Rattle.vmclock_page.specs.PageRead as page_read

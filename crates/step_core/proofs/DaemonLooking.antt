@@ -6,8 +6,8 @@ use Rattle.clock_gate.specs.declared.act.Act.TheVariants.{Load}
 use Rattle.clock_gate.specs.declared.clock_row.Reading.{Reading}
 use Rattle.clock_gate.specs.declared.trace.Trace.{Trace}
 use Rattle.clock_gate.specs.ClockRow.{reading_at}
-use Rattle.clock_gate.specs.Tries.{SeqlockRead, Progress, Asks, Ends, started, act_of, end_of}
-use Rattle.clock_gate.proofs.Tries.{asks-first}
+use Rattle.seqlock.specs.Tries.{SeqlockRead, Progress, Asks, Ends, started, act_of, end_of}
+use Rattle.seqlock.proofs.Tries.{asks-first}
 use Rattle.vmclock_page.specs.declared.page_seen.PageSeen.{PageSeen}
 use Rattle.vmclock_page.specs.Host.{Host, count_of}
 use Rattle.vmclock_page.specs.PageRead as page_read

@@ -7,7 +7,7 @@ use Rattle.clock_gate.specs.declared.clock_row.Reading.{Reading}
 use Rattle.clock_gate.specs.declared.trace.PollRow.{PollRow}
 use Rattle.clock_gate.specs.declared.trace.Trace.{Trace}
 use Rattle.clock_gate.specs.Trace.{IsLawfulTrace}
-use Rattle.clock_gate.specs.Tries.{SeqlockRead}
+use Rattle.seqlock.specs.Tries.{SeqlockRead}
 use Rattle.vmclock_page.specs.Host.{Host}
 use Rattle.segment_layout.specs.declared.start.Start.{Start}
 use Rattle.segment_layout.specs.declared.words.TheConstants.{MAGIC}

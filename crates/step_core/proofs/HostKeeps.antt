@@ -3,7 +3,7 @@
 use Rattle.std.proofs.Common.{◌≡◌, ℕ, ◌+◌, ◌*◌, ◌≤◌, ◌<◌, Bool, true, false, List, [], ◌∷◌, length, Option, Some, None, refl, ◌∙◌, subst, arith}
 use Rattle.std.specs.Prelude.{slice_index}
 use Rattle.clock_gate.specs.declared.trace.HostRow.{HostRow}
-use Rattle.clock_gate.specs.Tries.{SeqlockRead, started}
+use Rattle.seqlock.specs.Tries.{SeqlockRead, started}
 use Rattle.vmclock_page.specs.Host.{Host}
 use Rattle.segment_layout.specs.Words.{flag_of}
 use Rattle.segment_run.specs.ShowsSegment.{KeepsRest}

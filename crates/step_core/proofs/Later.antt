@@ -2,7 +2,7 @@
 -- steps of a read are proved in.
 use Rattle.std.specs.Prelude.{◌≡◌, ℕ, ◌+◌, ◌*◌, ◌≤◌, false, List, Option, Some, None}
 use Rattle.clock_gate.specs.declared.trace.HostRow.{HostRow}
-use Rattle.clock_gate.specs.Tries.{SeqlockRead}
+use Rattle.seqlock.specs.Tries.{SeqlockRead}
 use Rattle.vmclock_page.specs.Host.{count_of}
 use Rattle.vmclock_page.specs.PageRead as page_read
 use Rattle.vmclock_page.specs.declared.page_seen.PageSeen.TheVariants as page_seen

@@ -1,6 +1,6 @@
 -- What the shared words show of the segment in the abstract run, and a segment reader of its read.
 use Rattle.std.specs.Prelude.{◌≡◌, ℕ, ◌<◌, ◌≤◌, false, List, [], ◌∷◌, length, take, Option, Some, None}
-use Rattle.clock_gate.specs.Tries.{SeqlockRead}
+use Rattle.seqlock.specs.Tries.{SeqlockRead}
 use Rattle.segment_layout.specs.Image.{IsHeaderFor}
 use Rattle.segment_layout.specs.Words.{data_words}
 use Rattle.segment_run.specs.SegmentRun.{SegmentRun, number_at, header_shown, published_at}

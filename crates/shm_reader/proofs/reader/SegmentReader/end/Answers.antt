@@ -1,7 +1,7 @@
 use Rattle.std.proofs.Common.{◌≡◌, ℕ, sym, ◌∙◌, refl, ap, subst, take, drop, Some, arith}
 use Rattle.std.specs.Prelude.{slice_index}
 use Rattle.generation_word.specs.Header.{generation_in}
-use Rattle.clock_gate.specs.Tries.{SeqlockRead, Asks, Ends, Unpublished, Found, progress}
+use Rattle.seqlock.specs.Tries.{SeqlockRead, Asks, Ends, Unpublished, Found, progress}
 use Rattle.segment_layout.specs.Record.{RecordFields}
 use Rattle.shm_reader.specs.declared.seen.Seen.TheVariants.{Whole}
 use Rattle.shm_reader.specs.SegmentTries.{segment_lock}

@@ -1,7 +1,7 @@
 -- The steps of a read of words under a number, try by try. This project's own.
 use Rattle.std.specs.Prelude.{◌≡◌, ◌↔◌, ℕ, Some, suc, ◌%◌, ◌<◌, true, false, List, [], ◌∷◌, ◌++◌, length, All}
 use Rattle.clock_gate.specs.Acts.{Touch, Wanted, replayed}
-use Rattle.clock_gate.specs.Tries.{Seqlock, Outcome, Unpublished, AllFailed, Found, IsCalm, started, given, read_act, read_end}
+use Rattle.seqlock.specs.Tries.{Seqlock, Outcome, Unpublished, AllFailed, Found, IsCalm, started, given, read_act, read_end}
 
 -- a load of a word that found this value
 abbrev pub load : ℕ → ℕ → Touch

@@ -1,8 +1,8 @@
-//! Words that a writer changes under a number, and reads of them in so many tries.
+//! Laws of every read.
 ghost use Rattle.std.specs.Prelude.{◌≡◌, ◌≢◌, ◌↔◌, ℕ, None};
 ghost use Rattle.clock_gate.specs.declared.act.Act.TheVariants.{End};
-ghost use Rattle.clock_gate.specs.TriedRun.{IsToldByItsTries};
-ghost use Rattle.clock_gate.specs.Tries.{Seqlock, SeqlockRead, started, read_act, read_end, IsStage, FollowsItsTries, TakesFewSteps, ComesNearer};
+ghost use Rattle.seqlock.specs.TriedRun.{IsToldByItsTries};
+ghost use Rattle.seqlock.specs.Tries.{Seqlock, SeqlockRead, started, read_act, read_end, IsStage, FollowsItsTries, TakesFewSteps, ComesNearer};
 
 /// What a read promises that takes words under a number in so many tries, whatever the words and the number are.
 pub fn seqlock_laws()

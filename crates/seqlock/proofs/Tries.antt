@@ -9,7 +9,7 @@ use Rattle.std.proofs.lemmas.List.{take-append-drop}
 use Rattle.std.proofs.Math.Seq.{take-append_seam, drop-append_seam}
 use Rattle.clock_gate.specs.declared.act.Act.TheVariants.{End}
 use Rattle.clock_gate.specs.Acts.{after, WereAsked}
-use Rattle.clock_gate.specs.Tries.{Seqlock, Attempt, Wants, Absent, Failed, Read, Outcome, Unpublished, AllFailed, Found, Progress, Asks, Ends, act_of, end_of, SeqlockRead, started, goes_on, failed_try, with_attempt, IsOfOneTry, IsCalm, last_load, data_loads, attempt, tries_of, read_of, progress, read_act, read_end, given, IsStage, steps_at, steps_left, FollowsItsTries}
+use Rattle.seqlock.specs.Tries.{Seqlock, Attempt, Wants, Absent, Failed, Read, Outcome, Unpublished, AllFailed, Found, Progress, Asks, Ends, act_of, end_of, SeqlockRead, started, goes_on, failed_try, with_attempt, IsOfOneTry, IsCalm, last_load, data_loads, attempt, tries_of, read_of, progress, read_act, read_end, given, IsStage, steps_at, steps_left, FollowsItsTries}
 
 module _ (lock : Seqlock) where
   -- ---- the values of one try

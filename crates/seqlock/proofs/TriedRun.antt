@@ -7,10 +7,10 @@ use Rattle.std.proofs.lemmas.List.Elements.{All-nil, All-push, All-head, All-tai
 use Rattle.std.proofs.Math.Seq.{take-append_seam, drop-append_seam}
 use Rattle.clock_gate.specs.declared.act.Act.TheVariants.{Load, End}
 use Rattle.clock_gate.specs.Acts.{Touch, act_of_touch, replayed, Wanted}
-use Rattle.clock_gate.specs.Tries.{Seqlock, Attempt, Wants, Absent, Failed, Read, Outcome, Unpublished, AllFailed, Found, Asks, Ends, act_of, end_of, SeqlockRead, started, goes_on, failed_try, with_attempt, IsOfOneTry, IsCalm, data_loads, last_load, attempt, read_of, progress, read_act, read_end, given, IsStage}
-use Rattle.clock_gate.specs.TriedRun.{load, loads_from, loads_of, FailedTry, Odd, Changed, numbers_after, HasFailed, whole_try, steps_of, steps_of_all, Did, CameTo}
 use Rattle.clock_gate.proofs.Acts.{replayed-append, wanted-append}
-use Rattle.clock_gate.proofs.Tries as laws
+use Rattle.seqlock.specs.Tries.{Seqlock, Attempt, Wants, Absent, Failed, Read, Outcome, Unpublished, AllFailed, Found, Asks, Ends, act_of, end_of, SeqlockRead, started, goes_on, failed_try, with_attempt, IsOfOneTry, IsCalm, data_loads, last_load, attempt, read_of, progress, read_act, read_end, given, IsStage}
+use Rattle.seqlock.specs.TriedRun.{load, loads_from, loads_of, FailedTry, Odd, Changed, numbers_after, HasFailed, whole_try, steps_of, steps_of_all, Did, CameTo}
+use Rattle.seqlock.proofs.Tries as laws
 
 loads_from-append : (word : ℕ) (xs ys : List ℕ) → loads_from word (xs ++ ys) ≡ loads_from word xs ++ loads_from (word + length xs) ys
 loads_from-append word [] ys = ap (λ (n : ℕ). loads_from n ys) (omega arith)

@@ -1,7 +1,7 @@
-use Rattle.clock_gate.specs.Tries.{progress}
-use Rattle.clock_gate.proofs.Tries as tries
-use Rattle.clock_gate.proofs.TriedRun as runs
-use Rattle.clock_gate.proofs.seqlock.seqlock_laws.Goals as goal
+use Rattle.seqlock.specs.Tries.{progress}
+use Rattle.seqlock.proofs.Tries as tries
+use Rattle.seqlock.proofs.TriedRun as runs
+use Rattle.seqlock.proofs.laws.seqlock_laws.Goals as goal
 
 pub returns-clause-follows : goal.returns-clause-follows
 returns-clause-follows c = tries.follows_its_tries
