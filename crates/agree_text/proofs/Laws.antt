@@ -2,12 +2,12 @@
 use Rattle.std.proofs.Common.{◌≡◌, ◌∙◌, ℕ, ◌+◌, ◌<◌, List, [], ◌∷◌, ◌++◌, length, Result, Ok, Err, refl, sym, ap, append_assoc, length-append, arith}
 use Rattle.std.proofs.lemmas.List.{append-nil}
 use Rattle.bound_agree.specs.Board.{no_spans}
-use Rattle.trace_reader.specs.Errors.{Refuses}
-use Rattle.trace_reader.specs.Records.{records_of}
-use Rattle.trace_reader.specs.declared.reason.Reason.{Reason}
-use Rattle.trace_reader.specs.declared.trace_error.TraceError.{TraceError}
-use Rattle.trace_reader.specs.declared.trace_error.TraceError.TheVariants as errors
-use Rattle.trace_reader.specs.declared.trace_error.TraceFault.{TraceFault}
+use Rattle.csv_records.specs.TraceError.{Refuses}
+use Rattle.csv_records.specs.Records.{records_of}
+use Rattle.csv_records.specs.declared.reason.Reason.{Reason}
+use Rattle.csv_records.specs.declared.trace_error.TraceError.{TraceError}
+use Rattle.csv_records.specs.declared.trace_error.TraceError.TheVariants as errors
+use Rattle.csv_records.specs.declared.trace_error.TraceFault.{TraceFault}
 use Rattle.agree_text.specs.declared.line.Line.{Line}
 use Rattle.agree_text.specs.Agreement.{AreLines, HasFault, IsFault, IsFirstRefused, IsOutput, agreement_text, at_line, lines_from, session_in}
 use Rattle.agree_text.specs.Answers.{header_line}

@@ -7,12 +7,12 @@ use Rattle.std.proofs.lemmas.List.Sums.{sum_by-append, sum_by-cons}
 use Rattle.std.proofs.lemmas.Bool.Decides.{nat_tests}
 use Rattle.bound_agree.specs.Board.{no_spans}
 use Rattle.bound_agree.specs.Span.{SpanEnds}
-use Rattle.trace_reader.specs.Errors.{Gives, Refuses}
-use Rattle.trace_reader.specs.Records.{records_of}
-use Rattle.trace_reader.specs.declared.reason.Reason.TheVariants.{Kind}
-use Rattle.trace_reader.specs.declared.trace_error.TraceError.{TraceError}
-use Rattle.trace_reader.specs.declared.trace_error.TraceError.TheVariants as errors
-use Rattle.trace_reader.specs.declared.trace_error.TraceFault.{TraceFault}
+use Rattle.csv_records.specs.TraceError.{Gives, Refuses}
+use Rattle.csv_records.specs.Records.{records_of}
+use Rattle.csv_records.specs.declared.reason.Reason.TheVariants.{Kind}
+use Rattle.csv_records.specs.declared.trace_error.TraceError.{TraceError}
+use Rattle.csv_records.specs.declared.trace_error.TraceError.TheVariants as errors
+use Rattle.csv_records.specs.declared.trace_error.TraceFault.{TraceFault}
 use Rattle.agree_text.specs.declared.line.Line.{Line}
 use Rattle.agree_text.specs.Agreement.{at_line, ended, lines_from, lines_of, session_in, step_of}
 use Rattle.agree_text.specs.Answers.{header_line}

@@ -1,13 +1,13 @@
 -- The whole output for a text, or the first record that is refused.
 use Rattle.std.specs.Prelude.{◌≡◌, ◌≢◌, ℕ, ◌+◌, List, [], ◌∷◌, ◌++◌, length, Result, Ok, Err, ⊤}
 use Rattle.bound_agree.specs.Board.{no_spans}
-use Rattle.trace_reader.specs.Errors.{Refuses}
-use Rattle.trace_reader.specs.Records.{records_of}
-use Rattle.trace_reader.specs.declared.reason.Reason.{Reason}
-use Rattle.trace_reader.specs.declared.reason.Reason.TheVariants.{Kind}
-use Rattle.trace_reader.specs.declared.trace_error.TraceError.{TraceError}
-use Rattle.trace_reader.specs.declared.trace_error.TraceError.TheVariants as error
-use Rattle.trace_reader.specs.declared.trace_error.TraceFault.{TraceFault}
+use Rattle.csv_records.specs.TraceError.{Refuses}
+use Rattle.csv_records.specs.Records.{records_of}
+use Rattle.csv_records.specs.declared.reason.Reason.{Reason}
+use Rattle.csv_records.specs.declared.reason.Reason.TheVariants.{Kind}
+use Rattle.csv_records.specs.declared.trace_error.TraceError.{TraceError}
+use Rattle.csv_records.specs.declared.trace_error.TraceError.TheVariants as error
+use Rattle.csv_records.specs.declared.trace_error.TraceFault.{TraceFault}
 use Rattle.agree_text.specs.declared.line.Line.{Line}
 use Rattle.agree_text.specs.Answers.{header_line}
 use Rattle.agree_text.specs.Line.{◌>>=◌}

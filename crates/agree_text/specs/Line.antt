@@ -3,8 +3,8 @@ use Rattle.std.specs.Prelude.{ℕ, ◌≤◌, List, length, Result, Ok, Err, ⊤
 use Rattle.std.specs.Option.{ok_or}
 use Rattle.bound_agree.specs.Span.{SpanEnds, span_of}
 use Rattle.bound_agree.specs.declared.board.TheConstants.{MOST_SERVERS}
-use Rattle.trace_reader.specs.declared.reason.Reason.{Reason}
-use Rattle.trace_reader.specs.declared.reason.Reason.TheVariants as reasons
+use Rattle.csv_records.specs.declared.reason.Reason.{Reason}
+use Rattle.csv_records.specs.declared.reason.Reason.TheVariants as reasons
 use Rattle.agree_text.specs.declared.kind.Kind.{Kind}
 use Rattle.agree_text.specs.declared.kind.Kind.TheVariants as kinds
 use Rattle.agree_text.specs.declared.line.Line.{Line}

@@ -2,9 +2,9 @@
 use Rattle.std.specs.Prelude.{ℕ, ◌==◌, ◌^◌, List, [], ◌∷◌, Option, Some, None, Result, Ok, ℤ, pos, neg_ℤ, option_map, option_and_then, if◌then◌else◌}
 use Rattle.std.specs.Option.{ok_or}
 use Rattle.csv.specs.Records.{field_at}
-use Rattle.trace_reader.specs.Fields.{number_in}
-use Rattle.trace_reader.specs.declared.reason.Reason.{Reason}
-use Rattle.trace_reader.specs.declared.reason.Reason.TheVariants as reasons
+use Rattle.csv_records.specs.Fields.{number_in}
+use Rattle.csv_records.specs.declared.reason.Reason.{Reason}
+use Rattle.csv_records.specs.declared.reason.Reason.TheVariants as reasons
 
 -- the number at a place, within a range
 abbrev pub number_at : ℕ → ℕ → ℕ → List (List ℕ) → Result ℕ Reason

@@ -3,8 +3,8 @@ use Rattle.std.specs.Prelude.{ℕ, ◌+◌, ◌-◌, ◌==◌, Bool, true, false
 use Rattle.std.specs.List.{count_by}
 use Rattle.bound_agree.specs.Board.{no_spans}
 use Rattle.bound_agree.specs.Span.{SpanEnds}
-use Rattle.trace_reader.specs.declared.reason.Reason.{Reason}
-use Rattle.trace_reader.specs.declared.reason.Reason.TheVariants as reasons
+use Rattle.csv_records.specs.declared.reason.Reason.{Reason}
+use Rattle.csv_records.specs.declared.reason.Reason.TheVariants as reasons
 use Rattle.agree_text.specs.declared.limits.TheConstants.{MOST_ASKS, MOST_RECORDS}
 use Rattle.agree_text.specs.declared.line.Line.{Line}
 use Rattle.agree_text.specs.declared.line.Line.TheVariants.{Header, Set, Drop, Ask}

@@ -17,7 +17,7 @@ use Rattle.lawful_report.specs.declared.printed.Printed.TheVariants as lines
 use Rattle.lawful_report.specs.Lines.{line_text}
 use Rattle.run_promises.specs.Judged.{premises_of}
 use Rattle.trace_reader.specs.Grammar.{trace_in}
-use Rattle.trace_reader.specs.declared.trace_error.TraceFault.{TraceFault}
+use Rattle.csv_records.specs.declared.trace_error.TraceFault.{TraceFault}
 use Rattle.bound_cli.specs.declared.times.Times.{Times}
 use Rattle.bound_cli.specs.declared.totals.Totals.{Totals}
 use Rattle.bound_cli.specs.Civil.{line_with}

@@ -3,9 +3,9 @@ use Rattle.std.proofs.Common.{◌≡◌, ◌≢◌, ◌⊎◌, ℕ, ◌+◌, fal
 use Rattle.std.specs.Prelude.{◌==◌}
 use Rattle.std.proofs.lemmas.Bool.Decides.{nat_tests}
 use Rattle.std.proofs.lemmas.List.{append-nil, length-append}
-use Rattle.trace_reader.specs.declared.reason.Reason.{Reason}
-use Rattle.trace_reader.specs.declared.reason.Reason.TheVariants as reason
-use Rattle.trace_reader.specs.declared.trace_error.TraceFault.{TraceFault}
+use Rattle.csv_records.specs.declared.reason.Reason.{Reason}
+use Rattle.csv_records.specs.declared.reason.Reason.TheVariants as reason
+use Rattle.csv_records.specs.declared.trace_error.TraceFault.{TraceFault}
 use Rattle.vmclock_time.specs.declared.rows.PageRow.{PageRow}
 use Rattle.pagetime_text.specs.Facts.{ends, facts_of, goes, line_after, rows_after, rows_of}
 use Rattle.pagetime_text.specs.Laws.{Accepts, FaultsAreFirst, HasNone, RowsAreSaid, Says}

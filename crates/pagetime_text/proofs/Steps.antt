@@ -5,8 +5,8 @@ use Rattle.std.specs.List.{cons_option}
 use Rattle.std.proofs.lemmas.List.Elements.{filter_map-append}
 use Rattle.std.proofs.lemmas.List.{length-append, append-nil}
 use Rattle.std.proofs.lemmas.Bool.Decides.{nat_tests}
-use Rattle.trace_reader.specs.declared.reason.Reason.{Reason}
-use Rattle.trace_reader.specs.declared.reason.Reason.TheVariants as reason
+use Rattle.csv_records.specs.declared.reason.Reason.{Reason}
+use Rattle.csv_records.specs.declared.reason.Reason.TheVariants as reason
 use Rattle.vmclock_time.specs.declared.limits.TheConstants.{MOST_PAGE_ROWS}
 use Rattle.vmclock_time.specs.Reads.{BeginsWithPage}
 use Rattle.vmclock_time.specs.declared.rows.PageRow.{PageRow}
@@ -15,7 +15,7 @@ use Rattle.pagetime_text.specs.Facts.{Facts, facts_of, fault_of, has_page, row_i
 use Rattle.pagetime_text.specs.Held.{joined, numbered, step_of, taken}
 use Rattle.pagetime_text.specs.Line.{line_of}
 use Rattle.pagetime_text.specs.Parts.{◌>>=◌}
-use Rattle.trace_reader.specs.declared.trace_error.TraceFault.{TraceFault}
+use Rattle.csv_records.specs.declared.trace_error.TraceFault.{TraceFault}
 use Rattle.pagetime_text.specs.declared.line.Line.{Line}
 use Rattle.pagetime_text.specs.declared.line.Line.TheVariants as line
 

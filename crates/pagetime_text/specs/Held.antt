@@ -1,9 +1,9 @@
 -- One line more, by the facts alone.
 use Rattle.std.specs.Prelude.{◌≡◌, ℕ, ◌+◌, ◌≤◌, List, [], ◌∷◌, ◌++◌, length, Option, Some, None, Result, Ok, Err}
-use Rattle.trace_reader.specs.Errors.{Refuses}
-use Rattle.trace_reader.specs.declared.reason.Reason.{Reason}
-use Rattle.trace_reader.specs.declared.trace_error.TraceError.{TraceError}
-use Rattle.trace_reader.specs.declared.trace_error.TraceFault.{TraceFault}
+use Rattle.csv_records.specs.TraceError.{Refuses}
+use Rattle.csv_records.specs.declared.reason.Reason.{Reason}
+use Rattle.csv_records.specs.declared.trace_error.TraceError.{TraceError}
+use Rattle.csv_records.specs.declared.trace_error.TraceFault.{TraceFault}
 use Rattle.vmclock_time.specs.Reads.{BeginsWithPage}
 use Rattle.vmclock_time.specs.declared.limits.TheConstants.{MOST_PAGE_ROWS}
 use Rattle.pagetime_text.specs.Facts.{Facts, fault_of, row_in, unless}

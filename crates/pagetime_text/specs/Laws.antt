@@ -1,7 +1,7 @@
 -- The grammar in its own words: what a text's records say, and which of them is the first that is refused.
 use Rattle.std.specs.Prelude.{◌≡◌, ◌≢◌, ◌↔◌, ◌⊎◌, ℕ, ◌+◌, List, [], ◌∷◌, ◌++◌, length, Ok, Err}
-use Rattle.trace_reader.specs.declared.reason.Reason.TheVariants as reason
-use Rattle.trace_reader.specs.declared.trace_error.TraceFault.{TraceFault}
+use Rattle.csv_records.specs.declared.reason.Reason.TheVariants as reason
+use Rattle.csv_records.specs.declared.trace_error.TraceFault.{TraceFault}
 use Rattle.vmclock_time.specs.declared.rows.PageRow.{PageRow}
 use Rattle.pagetime_text.specs.Facts.{line_after, rows_after, rows_of}
 use Rattle.pagetime_text.specs.declared.line.Line.{Line}

@@ -4,8 +4,8 @@ use Rattle.std.specs.Result.{result_ok}
 use Rattle.clock_gate.specs.declared.limits.TheConstants.{LAST_MOMENT, MOST_PAGE_BYTES}
 use Rattle.vmclock_page.specs.ClockPage.{ClockPage}
 use Rattle.vmclock_page.specs.Page.{page_of}
-use Rattle.trace_reader.specs.declared.reason.Reason.{Reason}
-use Rattle.trace_reader.specs.declared.reason.Reason.TheVariants as reason
+use Rattle.csv_records.specs.declared.reason.Reason.{Reason}
+use Rattle.csv_records.specs.declared.reason.Reason.TheVariants as reason
 use Rattle.pagetime_text.specs.Kinds.{allows, kind_in}
 use Rattle.pagetime_text.specs.Parts.{◌>>=◌, bytes_part, number_part, optional_part}
 use Rattle.pagetime_text.specs.declared.kinds.Kind.{Kind}

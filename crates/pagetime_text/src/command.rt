@@ -1,5 +1,5 @@
 //! The command.
-ghost use Rattle.trace_reader.specs.Errors.{Gives};
+ghost use Rattle.csv_records.specs.TraceError.{Gives};
 ghost use Rattle.pagetime_text.specs.Text.{pagetime_text};
 
 use crate::reading::read_rows;

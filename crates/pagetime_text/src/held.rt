@@ -1,7 +1,7 @@
 //! What the lines so far say.
 ghost use Rattle.std.specs.Prelude.{◌≡◌, ◌+◌, ◌≤◌, [], None, OnOk, IfOk, length, vec_items};
 ghost use Rattle.csv.specs.Records.{fields_of};
-ghost use Rattle.trace_reader.specs.Errors.{Gives};
+ghost use Rattle.csv_records.specs.TraceError.{Gives};
 ghost use Rattle.vmclock_time.specs.Reads.{BeginsWithPage};
 ghost use Rattle.vmclock_time.specs.declared.limits.TheConstants.{MOST_PAGE_ROWS};
 ghost use Rattle.pagetime_text.specs.Facts.{Facts, breaks_order, breaks_page, ends, facts_of, fault_of, has_page, passes_limit};

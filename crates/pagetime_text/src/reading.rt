@@ -1,6 +1,6 @@
 //! The rows that a text says.
 ghost use Rattle.std.specs.Prelude.{◌≤◌, IfOk, length, vec_items};
-ghost use Rattle.trace_reader.specs.Errors.{Gives};
+ghost use Rattle.csv_records.specs.TraceError.{Gives};
 ghost use Rattle.vmclock_time.specs.Reads.{BeginsWithPage};
 ghost use Rattle.vmclock_time.specs.declared.limits.TheConstants.{MOST_PAGE_ROWS};
 ghost use Rattle.pagetime_text.specs.Facts.{rows_in};

@@ -4,13 +4,14 @@ use Rattle.std.proofs.lemmas.List.{append-nil}
 use Rattle.clock_gate.specs.declared.trace.Trace.{Trace}
 use Rattle.trace_reader.specs.Checks.{fault_of}
 use Rattle.trace_reader.specs.Facts.{Facts, facts_of, no_facts}
-use Rattle.trace_reader.specs.Grammar.{end_fault, trace_after, trace_of, unless}
+use Rattle.trace_reader.specs.Grammar.{end_fault, trace_after, trace_of}
+use Rattle.csv_records.specs.Reason.{unless}
 use Rattle.trace_reader.specs.Laws.{Accepts}
-use Rattle.trace_reader.specs.Lines.{line_of}
-use Rattle.trace_reader.specs.Parts.{◌>>>◌}
-use Rattle.trace_reader.specs.Steps.{taken}
+use Rattle.trace_reader.specs.Line.{line_of}
+use Rattle.csv_records.specs.Reason.{◌>>=◌}
+use Rattle.trace_reader.specs.Held.{taken}
 use Rattle.trace_reader.specs.declared.line.Line.{Line}
-use Rattle.trace_reader.specs.declared.reason.Reason.{Reason}
+use Rattle.csv_records.specs.declared.reason.Reason.{Reason}
 use Rattle.trace_reader.proofs.Ranges.{IsSound, line_of-sound}
 use Rattle.trace_reader.proofs.Spelled.{one_more, traces_say}
 use Rattle.trace_reader.proofs.Steps.{facts_more}
@@ -19,7 +20,7 @@ abbrev ok_line : Line → Result Line Reason
 ok_line line = Ok line
 
 -- a record that passes is its line, and the line has no fault
-passed : (facts : Facts) (r : Result Line Reason) (line : Line) → (r >>> λ l. unless (fault_of facts l) l) ≡ Ok line → (r ≡ ok_line line) × (fault_of facts line ≡ None)
+passed : (facts : Facts) (r : Result Line Reason) (line : Line) → (r >>= λ l. unless (fault_of facts l) l) ≡ Ok line → (r ≡ ok_line line) × (fault_of facts line ≡ None)
 passed facts (Err reason) line e = absurd cc
 passed facts (Ok l) line e = by (fault_of facts l) refl e
   where

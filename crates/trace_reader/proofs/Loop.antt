@@ -2,14 +2,15 @@
 use Rattle.std.proofs.Common.{◌≡◌, ◌∙◌, ℕ, ◌+◌, List, [], ◌∷◌, ◌++◌, Result, Ok, Err, ap}
 use Rattle.std.specs.Result.{IsErr, IsErrAnd}
 use Rattle.clock_gate.specs.declared.trace.Trace.{Trace}
-use Rattle.trace_reader.specs.Errors.{Answers, Refuses}
+use Rattle.csv_records.specs.TraceError.{Answers, Refuses}
 use Rattle.trace_reader.specs.Facts.{Facts, facts_of}
 use Rattle.trace_reader.specs.Grammar.{end_fault, ends, trace_after, trace_in}
-use Rattle.trace_reader.specs.Steps.{numbered, step_of}
+use Rattle.csv_records.specs.TraceError.{numbered}
+use Rattle.trace_reader.specs.Held.{step_of}
 use Rattle.trace_reader.specs.declared.line.Line.{Line}
-use Rattle.trace_reader.specs.declared.trace_error.TraceError.{TraceError}
-use Rattle.trace_reader.specs.declared.trace_error.TraceError.TheVariants as error
-use Rattle.trace_reader.specs.declared.trace_error.TraceFault.{TraceFault}
+use Rattle.csv_records.specs.declared.trace_error.TraceError.{TraceError}
+use Rattle.csv_records.specs.declared.trace_error.TraceError.TheVariants as error
+use Rattle.csv_records.specs.declared.trace_error.TraceFault.{TraceFault}
 use Rattle.trace_reader.proofs.Steps.{refused, stepped}
 
 -- after these lines the trace is that of the records ahead

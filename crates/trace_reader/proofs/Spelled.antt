@@ -3,11 +3,13 @@ use Rattle.std.proofs.Common.{◌≡◌, ◌⊎◌, ◌∙◌, ℕ, ◌+◌, Lis
 use Rattle.std.proofs.lemmas.List.{append-nil, length-append}
 use Rattle.clock_gate.specs.declared.trace.Trace.{Trace}
 use Rattle.trace_reader.specs.Facts.{Facts, facts_of}
-use Rattle.trace_reader.specs.Grammar.{end_fault, ends, goes_on, line_after, trace_after, trace_of}
+use Rattle.trace_reader.specs.Grammar.{end_fault, ends, line_after, trace_after, trace_of}
 use Rattle.trace_reader.specs.Laws.{Accepts, EndsAt, FaultsAreFirst, RefusedAt, Says, TracesSay}
 use Rattle.trace_reader.specs.declared.line.Line.{Line}
-use Rattle.trace_reader.specs.declared.reason.Reason.{Reason}
-use Rattle.trace_reader.specs.declared.trace_error.TraceFault.{TraceFault}
+use Rattle.csv_records.specs.Reason.{◌>>=◌}
+use Rattle.csv_records.specs.TraceError.{numbered}
+use Rattle.csv_records.specs.declared.reason.Reason.{Reason}
+use Rattle.csv_records.specs.declared.trace_error.TraceFault.{TraceFault}
 
 abbrev Fields : Type 0
 Fields = List (List ℕ)
@@ -39,7 +41,7 @@ unfolding trace_after Accepts
 found_at front [] fault e = inr (record { lines = []; accepted = refl; why = rw (append-nil front) (end_refused (end_fault (facts_of front)) (facts_of front) fault e) })
 found_at front (fields ∷ rest) fault e = by (line_after front fields) refl e (λ line. found_at (front ++ line ∷ []) rest fault)
   where
-    by : (r : Result Line Reason) → line_after front fields ≡ r → goes_on (length front + 1) r (λ line. trace_after (front ++ line ∷ []) rest) ≡ Err fault
+    by : (r : Result Line Reason) → line_after front fields ≡ r → (numbered (length front + 1) r >>= λ line. trace_after (front ++ line ∷ []) rest) ≡ Err fault
         → ((line : Line) → trace_after (front ++ line ∷ []) rest ≡ Err fault → RefusedAt (front ++ line ∷ []) rest fault ⊎ EndsAt (front ++ line ∷ []) rest fault)
         → RefusedAt front (fields ∷ rest) fault ⊎ EndsAt front (fields ∷ rest) fault
     by (Err reason) is e more =
@@ -100,7 +102,7 @@ is_said front [] trace e =
     record { lines = []; accepted = refl; whole = rw (append-nil front) end.0; is = rw (append-nil front) end.1 }
 is_said front (fields ∷ rest) trace e = by (line_after front fields) refl e (λ line. is_said (front ++ line ∷ []) rest trace)
   where
-    by : (r : Result Line Reason) → line_after front fields ≡ r → goes_on (length front + 1) r (λ line. trace_after (front ++ line ∷ []) rest) ≡ Ok trace
+    by : (r : Result Line Reason) → line_after front fields ≡ r → (numbered (length front + 1) r >>= λ line. trace_after (front ++ line ∷ []) rest) ≡ Ok trace
         → ((line : Line) → trace_after (front ++ line ∷ []) rest ≡ Ok trace → Says (front ++ line ∷ []) rest trace)
         → Says front (fields ∷ rest) trace
     by (Err reason) is e more = absurd cc

@@ -7,13 +7,15 @@ use Rattle.std.proofs.lemmas.List.Elements.{filter_map-append}
 use Rattle.vmclock_page.specs.ClockPage.{ClockPage}
 use Rattle.trace_reader.specs.Checks.{fault_of}
 use Rattle.trace_reader.specs.Facts.{Facts, call_at, calls_of, clock_in, clocks_of, drift_in, facts_of, first_in, first_of, gathered, host_at, host_of, image_in, job_at, layout_in, order_of, page_from, page_in, page_next, poll_in, polls_of, schedule_of, tries_in, turn_in}
-use Rattle.trace_reader.specs.Grammar.{goes_on, trace_after, unless}
-use Rattle.trace_reader.specs.Lines.{line_of}
-use Rattle.trace_reader.specs.Parts.{◌>>>◌}
-use Rattle.trace_reader.specs.Steps.{joined, kept, numbered, step_of, taken}
+use Rattle.trace_reader.specs.Grammar.{trace_after}
+use Rattle.csv_records.specs.Reason.{unless}
+use Rattle.trace_reader.specs.Line.{line_of}
+use Rattle.csv_records.specs.Reason.{◌>>=◌}
+use Rattle.trace_reader.specs.Held.{joined, kept, step_of, taken}
+use Rattle.csv_records.specs.TraceError.{numbered}
 use Rattle.trace_reader.specs.declared.line.Line.{Line}
-use Rattle.trace_reader.specs.declared.reason.Reason.{Reason}
-use Rattle.trace_reader.specs.declared.trace_error.TraceFault.{TraceFault}
+use Rattle.csv_records.specs.declared.reason.Reason.{Reason}
+use Rattle.csv_records.specs.declared.trace_error.TraceFault.{TraceFault}
 
 cons_option-joined : {X : Type 0} (o p : Option X) (xs : List X) → cons_option o (joined xs p) ≡ joined (cons_option o xs) p
 cons_option-joined None p xs = refl
@@ -123,7 +125,7 @@ stepped front fields rest new e = by (line_of fields) refl e
         (line, sym same ∙ sym (facts_more front line), rw (is, passes) refl)
     by_fault line (Some reason) is fails e = absurd cc
 
-    by : (r : Result Line Reason) → line_of fields ≡ r → numbered (length front + 1) (r >>> λ line. unless (fault_of (facts_of front) line) (taken (facts_of front) line)) ≡ Ok new
+    by : (r : Result Line Reason) → line_of fields ≡ r → numbered (length front + 1) (r >>= λ line. unless (fault_of (facts_of front) line) (taken (facts_of front) line)) ≡ Ok new
         → (line : Line) × (new ≡ facts_of (front ++ line ∷ [])) × (trace_after front (fields ∷ rest) ≡ trace_after (front ++ line ∷ []) rest)
     by (Ok line) is e = by_fault line (fault_of (facts_of front) line) is refl e
     by (Err reason) is e = absurd cc
@@ -134,11 +136,11 @@ unfolding trace_after step_of
 refused front fields rest fault e = by (line_of fields) e refl
   where
     by_fault : (line : Line) (o : Option Reason) → numbered (length front + 1) (unless o (taken (facts_of front) line)) ≡ Err fault → fault_of (facts_of front) line ≡ o
-        → goes_on (length front + 1) (unless o line) (λ line. trace_after (front ++ line ∷ []) rest) ≡ Err fault
+        → (numbered (length front + 1) (unless o line) >>= λ line. trace_after (front ++ line ∷ []) rest) ≡ Err fault
     by_fault line None e is = absurd cc
     by_fault line (Some reason) e is = err_same _ _ e
 
-    by : (r : Result Line Reason) → numbered (length front + 1) (r >>> λ line. unless (fault_of (facts_of front) line) (taken (facts_of front) line)) ≡ Err fault → line_of fields ≡ r
-        → goes_on (length front + 1) (r >>> λ line. unless (fault_of (facts_of front) line) line) (λ line. trace_after (front ++ line ∷ []) rest) ≡ Err fault
+    by : (r : Result Line Reason) → numbered (length front + 1) (r >>= λ line. unless (fault_of (facts_of front) line) (taken (facts_of front) line)) ≡ Err fault → line_of fields ≡ r
+        → (numbered (length front + 1) (r >>= λ line. unless (fault_of (facts_of front) line) line) >>= λ line. trace_after (front ++ line ∷ []) rest) ≡ Err fault
     by (Ok line) e is = by_fault line (fault_of (facts_of front) line) e refl
     by (Err reason) e is = err_same _ _ e

@@ -12,8 +12,8 @@ use Rattle.vmclock_page.specs.Constants.{has_constants_of}
 use Rattle.trace_reader.specs.Facts.{Facts, given}
 use Rattle.trace_reader.specs.declared.line.Line.{Line}
 use Rattle.trace_reader.specs.declared.line.Line.TheVariants as lines
-use Rattle.trace_reader.specs.declared.reason.Reason.{Reason}
-use Rattle.trace_reader.specs.declared.reason.Reason.TheVariants as reasons
+use Rattle.csv_records.specs.declared.reason.Reason.{Reason}
+use Rattle.csv_records.specs.declared.reason.Reason.TheVariants as reasons
 
 abbrev pub is_first : Facts → Bool
 is_first facts = facts.count == 0

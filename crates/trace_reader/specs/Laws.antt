@@ -7,7 +7,7 @@ use Rattle.vmclock_page.specs.Rows.{ArePageRows, IsStartPage}
 use Rattle.trace_reader.specs.Facts.{facts_of}
 use Rattle.trace_reader.specs.Grammar.{end_fault, line_after, trace_after, trace_of}
 use Rattle.trace_reader.specs.declared.line.Line.{Line}
-use Rattle.trace_reader.specs.declared.trace_error.TraceFault.{TraceFault}
+use Rattle.csv_records.specs.declared.trace_error.TraceFault.{TraceFault}
 
 -- each of these records passes after those before it, and these are their lines
 unfoldable pub Accepts : List Line → List (List (List ℕ)) → List Line → Type 0
