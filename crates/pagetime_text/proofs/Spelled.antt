@@ -3,11 +3,13 @@ use Rattle.std.proofs.Common.{◌≡◌, ◌≢◌, ◌⊎◌, ℕ, ◌+◌, fal
 use Rattle.std.specs.Prelude.{◌==◌}
 use Rattle.std.proofs.lemmas.Bool.Decides.{nat_tests}
 use Rattle.std.proofs.lemmas.List.{append-nil, length-append}
+use Rattle.csv_records.specs.Reason.{◌>>=◌}
+use Rattle.csv_records.specs.TraceError.{numbered}
 use Rattle.csv_records.specs.declared.reason.Reason.{Reason}
 use Rattle.csv_records.specs.declared.reason.Reason.TheVariants as reason
 use Rattle.csv_records.specs.declared.trace_error.TraceFault.{TraceFault}
 use Rattle.vmclock_time.specs.declared.rows.PageRow.{PageRow}
-use Rattle.pagetime_text.specs.Facts.{ends, facts_of, goes, line_after, rows_after, rows_of}
+use Rattle.pagetime_text.specs.Facts.{ends, facts_of, line_after, rows_after, rows_of}
 use Rattle.pagetime_text.specs.Laws.{Accepts, FaultsAreFirst, HasNone, RowsAreSaid, Says}
 use Rattle.pagetime_text.specs.declared.line.Line.{Line}
 
@@ -39,7 +41,7 @@ unfolding rows_after Accepts
 forth front [] said e = inr (record { lines = []; accepted = refl; is = rw (append-nil front) e })
 forth front (rec ∷ rest) said e = by (line_after front rec) refl e (λ line. forth (front ++ line ∷ []) rest said)
   where
-    by : (r : Result Line Reason) → line_after front rec ≡ r → goes (length front + 1) r (λ line. rows_after (front ++ line ∷ []) rest) ≡ said
+    by : (r : Result Line Reason) → line_after front rec ≡ r → (numbered (length front + 1) r >>= λ line. rows_after (front ++ line ∷ []) rest) ≡ said
         → ((line : Line) → rows_after (front ++ line ∷ []) rest ≡ said → ((fault : TraceFault) × (said ≡ Err fault) × RefusedFrom (front ++ line ∷ []) rest fault) ⊎ EndsFrom (front ++ line ∷ []) rest said)
         → ((fault : TraceFault) × (said ≡ Err fault) × RefusedFrom front (rec ∷ rest) fault) ⊎ EndsFrom front (rec ∷ rest) said
     by (Err reason) is e more = inl (

@@ -2,14 +2,14 @@
 use Rattle.std.proofs.Common.{◌≡◌, ◌∙◌, ℕ, ◌+◌, List, [], ◌∷◌, ◌++◌, Result, Ok, Err, refl, sym, ap}
 use Rattle.std.specs.Prelude.{Bool, true, false, not}
 use Rattle.std.specs.Result.{IsErr, IsErrAnd}
-use Rattle.csv_records.specs.TraceError.{Gives, Refuses}
+use Rattle.csv_records.specs.TraceError.{Gives, Refuses, numbered}
 use Rattle.csv_records.specs.Records.{records_of}
 use Rattle.csv_records.specs.declared.trace_error.TraceError.{TraceError}
 use Rattle.csv_records.specs.declared.trace_error.TraceError.TheVariants as error
 use Rattle.csv_records.specs.declared.trace_error.TraceFault.{TraceFault}
 use Rattle.vmclock_time.specs.declared.rows.PageRow.{PageRow}
 use Rattle.pagetime_text.specs.Facts.{Facts, ends, facts_of, rows_after, rows_in}
-use Rattle.pagetime_text.specs.Held.{numbered, step_of}
+use Rattle.pagetime_text.specs.Held.{step_of}
 use Rattle.pagetime_text.specs.declared.line.Line.{Line}
 use Rattle.pagetime_text.proofs.Steps.{refused, stepped}
 

@@ -11,10 +11,11 @@ use Rattle.vmclock_time.specs.declared.limits.TheConstants.{MOST_PAGE_ROWS}
 use Rattle.vmclock_time.specs.Reads.{BeginsWithPage}
 use Rattle.vmclock_time.specs.declared.rows.PageRow.{PageRow}
 use Rattle.vmclock_time.specs.declared.rows.PageRow.TheVariants as row
-use Rattle.pagetime_text.specs.Facts.{Facts, facts_of, fault_of, has_page, row_in, rows_after, rows_of, unless}
-use Rattle.pagetime_text.specs.Held.{joined, numbered, step_of, taken}
+use Rattle.pagetime_text.specs.Facts.{Facts, facts_of, fault_of, has_page, row_in, rows_after, rows_of}
+use Rattle.pagetime_text.specs.Held.{joined, step_of, taken}
 use Rattle.pagetime_text.specs.Line.{line_of}
-use Rattle.pagetime_text.specs.Parts.{◌>>=◌}
+use Rattle.csv_records.specs.Reason.{◌>>=◌, unless}
+use Rattle.csv_records.specs.TraceError.{numbered}
 use Rattle.csv_records.specs.declared.trace_error.TraceFault.{TraceFault}
 use Rattle.pagetime_text.specs.declared.line.Line.{Line}
 use Rattle.pagetime_text.specs.declared.line.Line.TheVariants as line

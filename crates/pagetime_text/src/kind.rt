@@ -1,10 +1,8 @@
 //! The kinds of records.
 ghost use Rattle.std.specs.Prelude.{◌≡◌};
-ghost use Rattle.csv.specs.Records.{fields_of};
-ghost use Rattle.pagetime_text.specs.Kinds.{allows, kind_in, kind_named, word_of};
+ghost use Rattle.pagetime_text.specs.Kind.{allows};
 
-use csv::ByteRecord;
-use trace_reader::Reason;
+use csv_records::Worded;
 
 /// The kind of a record.
 #[derive(Clone, Copy, Debug, PartialEq, Eq)]
@@ -14,33 +12,20 @@ pub enum Kind {
     Read,
 }
 
-const KINDS: [Kind; 3] = [Kind::Header, Kind::Page, Kind::Read];
+pub const KINDS: [Kind; 3] = [Kind::Header, Kind::Page, Kind::Read];
 
-#[tactic(auto, unfolding(crate::specs::Kinds::word_of))]
-fn word_of(kind: Kind) -> &'static [u8]
-    ensures { result.now ≡ word_of kind }
-{
-    match kind {
-        Kind::Header => b"pagetime-trace",
-        Kind::Page => b"page",
-        Kind::Read => b"read",
-    }
-}
+impl Worded for Kind {
+    ghost use Rattle.pagetime_text.specs.Kind.{word_of as spelled};
 
-#[tactic(auto, unfolding(crate::specs::Kinds::kind_named))]
-fn kind_named(field: &[u8]) -> Option<Kind>
-    ensures { result ≡ kind_named field.now }
-{
-    KINDS.iter().copied().find(|kind| field == word_of(*kind))
-}
+    ghost word_of = { spelled };
 
-/// The kind that a record's first field names.
-pub fn kind_in(row: &ByteRecord) -> Result<Kind, Reason>
-    ensures { result ≡ kind_in (fields_of row.now) }
-{
-    match row.get(0) {
-        Some(field) => kind_named(field).ok_or(Reason::Kind),
-        None => Err(Reason::Kind),
+    #[tactic(auto, unfolding(crate::specs::Kind::word_of))]
+    fn word(self) -> &'static [u8] {
+        match self {
+            Kind::Header => b"pagetime-trace",
+            Kind::Page => b"page",
+            Kind::Read => b"read",
+        }
     }
 }
 

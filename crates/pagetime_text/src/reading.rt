@@ -7,8 +7,8 @@ ghost use Rattle.pagetime_text.specs.Facts.{rows_in};
 
 use crate::held::Held;
 use csv::ByteRecord;
+use csv_records::{Records, TraceError};
 use std::alloc::Global;
-use trace_reader::{Records, TraceError};
 use vmclock_time::PageRow;
 
 /// The rows that a text says, or its first refused record with the first reason to refuse it. A report can be made of

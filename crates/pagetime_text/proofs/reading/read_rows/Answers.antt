@@ -2,7 +2,8 @@ use Rattle.std.proofs.Common.{◌≡◌, ◌+◌, ◌∷◌, [], rules}
 use Rattle.std.specs.Prelude.{vec_items}
 use Rattle.csv.specs.Records.{fields_of}
 use Rattle.pagetime_text.specs.Facts.{rows_in}
-use Rattle.pagetime_text.specs.Held.{numbered, step_of}
+use Rattle.csv_records.specs.TraceError.{numbered}
+use Rattle.pagetime_text.specs.Held.{step_of}
 use Rattle.pagetime_text.proofs.Stands.{goes_on, has_ended, has_fault, passed_on, passes_fault}
 use Rattle.pagetime_text.proofs.reading.read_rows.Goals as goal
 
