@@ -1,7 +1,6 @@
 pub mod Keeping
 pub mod Last
 pub mod Lawful
-pub mod Loop
 pub mod Order
 pub mod Pages
 pub mod PagesKept

@@ -1,27 +1,17 @@
 -- What one line more makes of the facts, and one record more.
-use Rattle.std.specs.Prelude.{◌≡◌, ◌≤◌, ℕ, ◌+◌, List, [], ◌∷◌, ◌++◌, length, Option, Some, None, Result, Ok, Err}
+use Rattle.std.specs.Prelude.{◌≤◌, ℕ, ◌+◌, List, length, Option, Some, None, Result}
 use Rattle.clock_gate.specs.Trace.{turns_of}
 use Rattle.clock_gate.specs.declared.limits.TheConstants.{MOST_CALLS, MOST_HOST_ROWS, MOST_POLLS, MOST_SCHEDULE_LINES, MOST_TURNS}
-use Rattle.trace_reader.specs.Checks.{fault_of}
-use Rattle.csv_records.specs.TraceError.{Refuses}
-use Rattle.trace_reader.specs.Facts.{Facts, call_at, clock_in, drift_in, given, host_at, image_in, job_at, layout_in, page_in, page_next, poll_in, tries_in, turn_in}
-use Rattle.csv_records.specs.Reason.{unless}
-use Rattle.trace_reader.specs.Line.{line_of}
-use Rattle.csv_records.specs.Reason.{◌>>=◌}
-use Rattle.trace_reader.specs.declared.line.Line.{Line}
+use Rattle.csv_records.specs.Step.{joined, step_by}
 use Rattle.csv_records.specs.declared.reason.Reason.{Reason}
-use Rattle.csv_records.specs.declared.trace_error.TraceError.{TraceError}
-use Rattle.csv_records.specs.declared.trace_error.TraceFault.{TraceFault}
+use Rattle.trace_reader.specs.Facts.{Facts, call_at, clock_in, drift_in, given, host_at, image_in, job_at, layout_in, page_in, page_next, poll_in, tries_in, turn_in}
+use Rattle.trace_reader.specs.Grammar.{grammar}
+use Rattle.trace_reader.specs.declared.line.Line.{Line}
 
 -- the first of two values, by cases on the second
 abbrev pub kept : {X : Type 0} → Option X → Option X → Option X
 kept first None = first
 kept first (Some x) = Some (given first x)
-
--- a list and one item more, if there is one
-abbrev pub joined : {X : Type 0} → List X → Option X → List X
-joined xs None = xs
-joined xs (Some x) = xs ++ x ∷ []
 
 -- the facts after one line more
 abbrev pub taken : Facts → Line → Facts
@@ -43,7 +33,7 @@ taken facts line = record {
 
 -- the facts after one record more, or why it is refused
 unfoldable pub step_of : Facts → List (List ℕ) → Result Facts Reason
-step_of facts fields = line_of fields >>= λ line. unless (fault_of facts line) (taken facts line)
+step_of facts fields = step_by grammar taken facts fields
 
 abbrev pub one_of : {X : Type 0} → Option X → ℕ
 one_of None = 0
