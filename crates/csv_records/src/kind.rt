@@ -7,7 +7,7 @@ use crate::fields::is_word;
 use crate::reason::Reason;
 use csv::ByteRecord;
 
-/// A kind of records, each with its word.
+/// The kinds of some text's records, each with the word that names it.
 pub trait Worded {
     ghost use Rattle.std.specs.Prelude.{◌≡◌, ℕ, List};
 
@@ -28,7 +28,7 @@ pub fn kind_named<K: Worded + Copy>(kinds: &[K], field: &[u8]) -> Option<K>
         .find(|kind| is_word(field, kind.word()))
 }
 
-/// The kind that a record's first field names. `Kind` exactly where it names none of these.
+/// The first of these kinds whose word is the record's first field. `Kind` exactly where there is none.
 pub fn read_kind<K: Worded + Copy>(row: &ByteRecord, kinds: &[K]) -> Result<K, Reason>
     ensures { result ≡ kind_in K.word_of kinds.now (fields_of row.now) }
 {

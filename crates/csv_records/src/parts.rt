@@ -11,7 +11,8 @@ use clock_gate::List;
 use csv::ByteRecord;
 use std::alloc::Global;
 
-/// The number at a place.
+/// The number from `low` to `high` that the field at a place writes. `Number` exactly where the record ends before that
+/// place, or the field is no such number.
 pub fn read_number(row: &ByteRecord, place: usize, low: u64, high: u64) -> Result<u64, Reason>
     ensures value { result ≡ number_part low high place (fields_of row.now) }
     ensures within { IfOk result (λ n. (low ≤ n) × (n ≤ high)) }
@@ -22,7 +23,7 @@ pub fn read_number(row: &ByteRecord, place: usize, low: u64, high: u64) -> Resul
     }
 }
 
-/// The number at a place, where the record has that place.
+/// The same where the record may end before that place: then there is none, and no refusal.
 pub fn read_optional(
     row: &ByteRecord,
     place: usize,
@@ -41,7 +42,8 @@ pub fn read_optional(
     }
 }
 
-/// The bytes that the digits at a place stand for.
+/// The bytes that at most `most_digits` hexadecimal digits at a place stand for. By `Hex` exactly where the record ends
+/// before that place, or its field stands for no bytes.
 pub fn read_bytes(
     alloc: Global,
     row: &ByteRecord,

@@ -16,15 +16,15 @@ use Rattle.pagetime_text.specs.declared.line.Line.{Line}
 use Rattle.pagetime_text.specs.declared.line.Line.TheVariants as line
 
 -- the page that bytes are
-abbrev pub page_in : List ℕ → Option ClockPage
-page_in bytes = result_ok (page_of bytes)
+abbrev pub page_found : List ℕ → Option ClockPage
+page_found bytes = result_ok (page_of bytes)
 
 -- `page,HEX` with at most two digits for each byte of the largest page, or `page,HEX,TRUE`
 abbrev pub page_line : List (List ℕ) → Result Line Reason
 page_line fields = do
   bytes ← bytes_part (2 * MOST_PAGE_BYTES) 1 fields
   truth ← optional_part 0 LAST_MOMENT 2 fields
-  Ok (line.Page (page_in bytes) truth)
+  Ok (line.Page (page_found bytes) truth)
 
 -- `read,COUNTER` or `read,COUNTER,TRUTH`
 abbrev pub read_line : List (List ℕ) → Result Line Reason

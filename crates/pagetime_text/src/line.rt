@@ -1,8 +1,8 @@
 //! A record by itself: what it says, or the first of the tests that need no record before it.
 ghost use Rattle.std.specs.Prelude.{◌≡◌};
 ghost use Rattle.csv.specs.Records.{fields_of};
-ghost use Rattle.pagetime_text.specs.Line.{line_by, line_of, page_in, page_line, read_line};
 ghost use Rattle.csv_records.specs.Refusal.{Reads};
+ghost use Rattle.pagetime_text.specs.Line.{line_by, line_of, page_found, page_line, read_line};
 
 use crate::kind::{KINDS, Kind, allows};
 use clock_gate::{LAST_MOMENT, MOST_PAGE_BYTES};
@@ -23,8 +23,8 @@ pub enum Line {
 }
 
 // The page that these bytes are.
-fn page_in(bytes: &[u8]) -> Option<Page>
-    ensures { result ≡ page_in bytes.now }
+fn page_found(bytes: &[u8]) -> Option<Page>
+    ensures { result ≡ page_found bytes.now }
 {
     read_page(bytes).ok()
 }
@@ -34,7 +34,7 @@ fn page_line(alloc: Global, row: &ByteRecord) -> Result<Line, Refusal>
 {
     let bytes = read_bytes(alloc, row, 1, 2 * MOST_PAGE_BYTES)?;
     let truth = read_optional(row, 2, 0, LAST_MOMENT)?;
-    Ok(Line::Page(page_in(bytes.as_slice()), truth))
+    Ok(Line::Page(page_found(bytes.as_slice()), truth))
 }
 
 fn read_line(row: &ByteRecord) -> Result<Line, Reason>
