@@ -1,22 +1,11 @@
-//! The fields of a record by their places.
-ghost use Rattle.std.specs.Prelude.{◌≡◌, ◌≤◌, ◌^◌, ℤ, pos, neg_ℤ, IfOk, Ok, Err};
+//! Numbers that may be negative.
+ghost use Rattle.std.specs.Prelude.{◌≡◌, ◌≤◌, ◌^◌, pos, neg_ℤ};
 ghost use Rattle.csv.specs.Records.{fields_of};
-ghost use Rattle.agree_text.specs.Parts.{number_at, signed_in, signed_at, truth_at};
+ghost use Rattle.agree_text.specs.Signed.{signed_in, signed_part, truth_part};
 
 use bound_agree::FARTHEST_END;
 use csv::ByteRecord;
-use trace_reader::{Reason, number};
-
-/// The number at a place, within a range.
-pub fn read_number(row: &ByteRecord, at: usize, low: u64, high: u64) -> Result<u64, Reason>
-    ensures value { result ≡ number_at low high at (fields_of row.now) }
-    ensures within { IfOk result (λ n. (low ≤ n) × (n ≤ high)) }
-{
-    match row.get(at) {
-        None => Err(Reason::Number),
-        Some(field) => number(field, low, high).ok_or(Reason::Number),
-    }
-}
+use csv_records::{Reason, number};
 
 fn above_zero(n: u64) -> i64
     requires { n ≤ 2 ^ 62 }
@@ -33,8 +22,8 @@ fn below_zero(n: u64) -> i64
 }
 
 // A number that may have a minus before its digits.
-#[tactic(auto, unfolding(crate::specs::Parts::signed_in))]
-fn signed(field: &[u8]) -> Option<i64>
+#[tactic(auto, unfolding(crate::specs::Signed::signed_in))]
+fn signed_in(field: &[u8]) -> Option<i64>
     ensures { result ≡ signed_in field.now }
 {
     match field {
@@ -48,23 +37,23 @@ fn signed(field: &[u8]) -> Option<i64>
     }
 }
 
-/// The number at a place, which may be negative.
-pub fn read_signed(row: &ByteRecord, at: usize) -> Result<i64, Reason>
-    ensures { result ≡ signed_at at (fields_of row.now) }
+/// The number at a place.
+pub fn read_signed(row: &ByteRecord, place: usize) -> Result<i64, Reason>
+    ensures { result ≡ signed_part place (fields_of row.now) }
 {
-    match row.get(at) {
+    match row.get(place) {
         None => Err(Reason::Number),
-        Some(field) => signed(field).ok_or(Reason::Number),
+        Some(field) => signed_in(field).ok_or(Reason::Number),
     }
 }
 
 /// The truth of a question, which its record may lack.
 pub fn read_truth(row: &ByteRecord) -> Result<Option<i64>, Reason>
-    ensures { result ≡ truth_at (fields_of row.now) }
+    ensures { result ≡ truth_part (fields_of row.now) }
 {
     match row.get(2) {
         None => Ok(None),
-        Some(field) => match signed(field) {
+        Some(field) => match signed_in(field) {
             None => Err(Reason::Number),
             Some(truth) => Ok(Some(truth)),
         },

@@ -2,17 +2,17 @@
 use Rattle.std.proofs.Common.{◌≡◌, ℕ, List, [], ◌∷◌, ◌++◌, Option, Some, None, Result, Ok, Err, refl, sym, subst}
 use Rattle.std.proofs.lemmas.List.{append-nil}
 use Rattle.clock_gate.specs.declared.trace.Trace.{Trace}
+use Rattle.csv_records.specs.Grammar.{Accepts}
+use Rattle.csv_records.specs.Reason.{◌>>=◌, unless}
+use Rattle.csv_records.specs.declared.reason.Reason.{Reason}
+use Rattle.csv_records.proofs.GrammarLaws.{one_more}
 use Rattle.trace_reader.specs.Checks.{fault_of}
 use Rattle.trace_reader.specs.Facts.{Facts, facts_of, no_facts}
 use Rattle.trace_reader.specs.Grammar.{end_fault, grammar, trace_of, trace_said}
-use Rattle.csv_records.specs.Grammar.{Accepts}
-use Rattle.csv_records.specs.Reason.{◌>>=◌, unless}
 use Rattle.trace_reader.specs.Line.{line_of}
 use Rattle.trace_reader.specs.Held.{taken}
 use Rattle.trace_reader.specs.declared.line.Line.{Line}
-use Rattle.csv_records.specs.declared.reason.Reason.{Reason}
 use Rattle.trace_reader.proofs.Ranges.{IsSound, line_of-sound}
-use Rattle.csv_records.proofs.GrammarLaws.{one_more}
 use Rattle.trace_reader.proofs.Spelled.{traces_say}
 use Rattle.trace_reader.proofs.Steps.{facts_more}
 

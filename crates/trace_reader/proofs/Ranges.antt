@@ -2,7 +2,6 @@
 use Rattle.std.proofs.Common.{◌≡◌, ◌≤◌, ◌<◌, ◌*◌, ◌^◌, ℕ, Bool, true, false, cond, List, [], ◌∷◌, length, Option, Some, None, Ok, Err, refl, subst, arith}
 use Rattle.std.specs.Prelude.{⊤, ◌-◌, IfSome, codes, ◌==◌, option_map}
 use Rattle.std.specs.Str.{bytes_eq}
-use Rattle.segment_layout.specs.Words.{words_of_image}
 use Rattle.clock_gate.specs.Trace.{IsClient, IsClockRow, IsFrom, IsParty, IsPollRow, IsTurn}
 use Rattle.clock_gate.specs.declared.clock_row.ClockRow.{ClockRow}
 use Rattle.clock_gate.specs.declared.limits.TheConstants.{LAST_MOMENT, MOST_CLIENTS, MOST_DRIFT, MOST_OF_A_LINE, MOST_PAGE_BYTES, MOST_REPLY_BYTES, MOST_STORES, MOST_TRIES}
@@ -12,6 +11,7 @@ use Rattle.clock_gate.specs.declared.trace.PollRow.{PollRow}
 use Rattle.clock_gate.specs.declared.trace.Turn.{Turn}
 use Rattle.clock_gate.specs.declared.trace.Turn.TheVariants as turns
 use Rattle.vmclock_page.specs.Bounds.{KeepsBounds}
+use Rattle.segment_layout.specs.Words.{words_of_image}
 use Rattle.csv_records.specs.Fields.{number_in}
 use Rattle.csv_records.specs.Parts.{bytes_part, number_part, optional_part}
 use Rattle.csv_records.specs.declared.reason.Reason.TheVariants as reasons

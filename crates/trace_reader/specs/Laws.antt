@@ -2,10 +2,10 @@
 use Rattle.std.specs.Prelude.{◌≡◌, ◌↔◌, ◌⊎◌, ℕ, List, [], Some, None, Ok, Err, IsOk}
 use Rattle.clock_gate.specs.Trace.{IsLawfulTrace}
 use Rattle.clock_gate.specs.declared.trace.Trace.{Trace}
+use Rattle.vmclock_page.specs.Rows.{ArePageRows, IsStartPage}
+use Rattle.segment_layout.specs.Image.{image_of}
 use Rattle.csv_records.specs.Grammar.{Accepts, RefusedAt}
 use Rattle.csv_records.specs.declared.trace_error.TraceFault.{TraceFault}
-use Rattle.segment_layout.specs.Image.{image_of}
-use Rattle.vmclock_page.specs.Rows.{ArePageRows, IsStartPage}
 use Rattle.trace_reader.specs.Facts.{facts_of}
 use Rattle.trace_reader.specs.Grammar.{end_fault, grammar, trace_of, trace_said}
 use Rattle.trace_reader.specs.declared.line.Line.{Line}

@@ -8,19 +8,19 @@ use Rattle.clock_gate.specs.declared.trace.Turn.{Turn}
 use Rattle.clock_gate.specs.declared.trace.Turn.TheVariants as turns
 use Rattle.generation_word.specs.declared.layout.Layout.{Layout}
 use Rattle.generation_word.specs.declared.layout.Layout.TheVariants as layouts
-use Rattle.segment_layout.specs.Words.{words_of_image}
 use Rattle.vmclock_page.specs.ClockPage.{ClockPage}
 use Rattle.vmclock_page.specs.Page.{page_of}
-use Rattle.trace_reader.specs.Kind.{allows, kind_in}
+use Rattle.segment_layout.specs.Words.{words_of_image}
 use Rattle.csv_records.specs.Reason.{◌>>=◌}
 use Rattle.csv_records.specs.Parts.{bytes_part, number_part, optional_part}
+use Rattle.csv_records.specs.declared.reason.Reason.{Reason}
+use Rattle.csv_records.specs.declared.reason.Reason.TheVariants as reasons
+use Rattle.trace_reader.specs.Kind.{allows, kind_in}
 use Rattle.trace_reader.specs.Party.{party_part}
 use Rattle.trace_reader.specs.declared.kind.Kind.{Kind}
 use Rattle.trace_reader.specs.declared.kind.Kind.TheVariants as kinds
 use Rattle.trace_reader.specs.declared.line.Line.{Line}
 use Rattle.trace_reader.specs.declared.line.Line.TheVariants as lines
-use Rattle.csv_records.specs.declared.reason.Reason.{Reason}
-use Rattle.csv_records.specs.declared.reason.Reason.TheVariants as reasons
 
 abbrev pub moment_part : ℕ → List (List ℕ) → Result ℕ Reason
 moment_part place fields = number_part 0 LAST_MOMENT place fields

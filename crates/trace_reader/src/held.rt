@@ -1,11 +1,10 @@
 //! What the lines so far say.
 ghost use Rattle.std.specs.Prelude.{◌≡◌, ◌<◌, ◌+◌, ◌^◌, option_map};
-ghost use Rattle.clock_gate.specs.Trace.{turns_in};
 ghost use Rattle.csv.specs.Records.{fields_of};
-ghost use Rattle.csv_records.specs.TraceError.{Answers};
+ghost use Rattle.clock_gate.specs.Trace.{turns_in};
+ghost use Rattle.csv_records.specs.TraceError.{Answers, Makes, numbered};
 ghost use Rattle.trace_reader.specs.Facts.{Facts, no_facts, words_of_page};
 ghost use Rattle.trace_reader.specs.Grammar.{end_fault, ends};
-ghost use Rattle.csv_records.specs.TraceError.{Makes, numbered};
 ghost use Rattle.trace_reader.specs.Held.{step_of};
 
 mod adding;

@@ -1,8 +1,8 @@
 //! A record of a trace by itself: what it says, or the first reason against it that needs no other record.
 ghost use Rattle.std.specs.Prelude.{◌≡◌, ◌≤◌, IfOk, length};
 ghost use Rattle.csv.specs.Records.{fields_of};
-ghost use Rattle.trace_reader.specs.Line.{call_line_in, clock_row_in, drift_line_in, header_in, image_by, image_line_in, jobs_in, layout_line_in, layout_named, line_by, line_of, mark_line_in, page_found, page_line_in, poll_row_in, run_in, tries_line_in};
 ghost use Rattle.csv_records.specs.Refusal.{Reads};
+ghost use Rattle.trace_reader.specs.Line.{call_line_in, clock_row_in, drift_line_in, header_in, image_by, image_line_in, jobs_in, layout_line_in, layout_named, line_by, line_of, mark_line_in, page_found, page_line_in, poll_row_in, run_in, tries_line_in};
 
 use crate::kind::{Kind, allows, kind_in};
 use crate::party::read_party;

@@ -1,10 +1,10 @@
 //! The trace of a text.
 ghost use Rattle.std.specs.Prelude.{IfOk, IsOk};
 ghost use Rattle.clock_gate.specs.Trace.{IsLawfulTrace};
+ghost use Rattle.vmclock_page.specs.Rows.{ArePageRows, IsStartPage};
 ghost use Rattle.segment_layout.specs.Image.{image_of};
 ghost use Rattle.csv_records.specs.TraceError.{Answers};
 ghost use Rattle.trace_reader.specs.Grammar.{trace_in};
-ghost use Rattle.vmclock_page.specs.Rows.{ArePageRows, IsStartPage};
 
 use crate::held::Held;
 use clock_gate::Trace;
