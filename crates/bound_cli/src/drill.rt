@@ -3,14 +3,14 @@ ghost use Rattle.std.specs.Prelude.{◌≡◌, ◌≤◌, ◌++◌, IfOk, OnOk};
 ghost use Rattle.std.specs.String.{string_bytes};
 ghost use Rattle.drill_day.specs.declared.limits.TheConstants.{FEWEST_DAY_POLLS, MOST_DAY_POLLS};
 ghost use Rattle.drill_day.specs.Day.{day_of};
-ghost use Rattle.step_core.specs.SharedReady.{CanRun};
+ghost use Rattle.abstract_run.specs.Given.{CanRun};
 ghost use Rattle.bound_cli.specs.Drill.{drill_line, drill_report, summary_of};
 
 use crate::report::put_summary;
+use crate::whole_run::ran;
 use clock_gate::{Memory, Trace};
 use drill_day::drill_trace;
 use std::alloc::{AllocError, Global};
-use step_core::World;
 
 // Room for three lines.
 const ROOM: usize = 192;
@@ -27,11 +27,10 @@ fn put_summary_of(alloc: Global, text: &mut String, trace: &Trace) -> Result<(),
     requires { CanRun trace.now }
     ensures { OnOk result (string_bytes text.new ≡ string_bytes text.old ++ summary_of trace.now) }
 {
-    let mut world = match World::new(alloc, trace) {
+    let world = match ran(alloc, trace) {
         Ok(world) => world,
         Err(Memory) => return Err(AllocError),
     };
-    world.run();
     put_summary(alloc, text, trace, world.events())
 }
 
