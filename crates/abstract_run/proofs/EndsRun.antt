@@ -15,7 +15,7 @@ use Rattle.abstract_run.specs.Schedule as schedule
 use Rattle.abstract_run.specs.RunHost.{HostRun, row_turn}
 use Rattle.abstract_run.specs.RunClient as run_client
 use Rattle.abstract_run.specs.RunClient.{ClientRun}
-use Rattle.abstract_run.specs.Run.{Run, turn, tries_of, client_at, client_turn_in, with_client}
+use Rattle.abstract_run.specs.Run.{Run, turn, tries_for, client_at, client_turn_in, with_client}
 use Rattle.abstract_run.specs.RunWhole.{jobs_ended, has_job, calls_ended, has_call, in_hand}
 use Rattle.abstract_run.proofs.RunClients.{other_at, same_at}
 use Rattle.abstract_run.proofs.EndsClient as clients
@@ -60,7 +60,7 @@ host_moves rows host (Some row) at ends = let both = row_moves host row ends in 
 
 -- the calls of a client
 abbrev pub calls_of : Trace → (client : ℕ) → ℕ
-calls_of trace client = length (tries_of trace.calls client)
+calls_of trace client = length (tries_for trace.calls client)
 
 abbrev pub IsClientEnding : (calls : ℕ) → Option ClientRun → Type 0
 IsClientEnding calls None = Unit {0}

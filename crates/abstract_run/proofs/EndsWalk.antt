@@ -17,7 +17,7 @@ use Rattle.abstract_run.specs.Schedule as schedule
 use Rattle.abstract_run.specs.RunClient as run_client
 use Rattle.abstract_run.specs.RunClient.{CallRun, ClientRun}
 use Rattle.abstract_run.specs.RunDaemon.{DaemonRun}
-use Rattle.abstract_run.specs.Run.{Run, turn, turns_by, start, tries_of, client_start, client_at, client_turn_in}
+use Rattle.abstract_run.specs.Run.{Run, turn, turns_by, start, tries_for, client_start, client_at, client_turn_in}
 use Rattle.abstract_run.specs.RunWhole.{is_resting, polls_ended, has_poll, in_hand, calls_ended, has_call, jobs_ended, has_job, lines_from, run_of}
 use Rattle.abstract_run.specs.RunEnds.{LinesEnd, RunsEnd}
 use Rattle.abstract_run.proofs.RunClients.{other_at}
@@ -189,7 +189,7 @@ rows_fit [] all = All-nil (λ (row : CallRow). IsFrom 1 MOST_TRIES row.tries)
 rows_fit (row ∷ calls) all =
     All-cons (λ (row : CallRow). IsFrom 1 MOST_TRIES row.tries) row calls (All-head IsCallRow row calls all).tries (rows_fit calls (All-tail IsCallRow row calls all))
 
-tries_fit : (calls : List CallRow) (client : ℕ) → All IsCallRow calls → All (IsFrom 1 MOST_TRIES) (tries_of calls client)
+tries_fit : (calls : List CallRow) (client : ℕ) → All IsCallRow calls → All (IsFrom 1 MOST_TRIES) (tries_for calls client)
 tries_fit calls client all =
     All-map (IsFrom 1 MOST_TRIES) (λ (row : CallRow). row.tries) (filter (λ (row : CallRow). row.client == client) calls)
     (All-filter (λ (row : CallRow). row.client == client) (λ (row : CallRow). IsFrom 1 MOST_TRIES row.tries) calls (rows_fit calls all))

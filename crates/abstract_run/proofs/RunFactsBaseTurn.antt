@@ -24,7 +24,8 @@ use Rattle.abstract_run.specs.declared.event.Event.TheVariants.{Opened, Moved, P
 use Rattle.abstract_run.specs.RunHost.{HostRun, clocks_at, page_shown}
 use Rattle.abstract_run.specs.RunPage.{PageAfter, Looks, Saw, Missed, page_load, is_marker_next}
 use Rattle.abstract_run.specs.RunDaemon as run_daemon
-use Rattle.abstract_run.specs.RunDaemon.{Life, Asked, Storing, Work, Resting, Opening, Asking, Looking, Taking, Writing, DaemonRun, DaemonTurn, daemon_turn, marked_by, base_number}
+use Rattle.abstract_run.specs.RunDaemon.{Life, Asked, Storing, Work, Resting, Opening, Asking, Looking, Taking, Writing, DaemonRun, DaemonTurn, daemon_turn, marked_by}
+use Rattle.status_machine.specs.Base.{base_number}
 use Rattle.abstract_run.specs.RunFacts.{EndedAs, told_by, AllEarlier, given_by, HasBase, AllBased}
 use Rattle.abstract_run.proofs.RunFactsBases.{AreSame, has_same, BaseHolds, base_same, FitsBase, based_of, has_later}
 use Rattle.abstract_run.proofs.RunFactsDaemon.{next_number, WorkFits, DaemonHolds, opening_some}

@@ -25,11 +25,11 @@ pub record Run : Type 0 where
 -- ---- how it begins
 
 -- the tries of a client's calls, in order
-abbrev pub tries_of : List CallRow → (client : ℕ) → List ℕ
-tries_of calls client = map (λ (row : CallRow). row.tries) (filter (λ (row : CallRow). row.client == client) calls)
+abbrev pub tries_for : List CallRow → (client : ℕ) → List ℕ
+tries_for calls client = map (λ (row : CallRow). row.tries) (filter (λ (row : CallRow). row.client == client) calls)
 
 abbrev pub client_start : List CallRow → (client : ℕ) → ClientRun
-client_start calls client = record { left = tries_of calls client; begun = 0; call = None }
+client_start calls client = record { left = tries_for calls client; begun = 0; call = None }
 
 abbrev pub start : Trace → Run
 start trace =
@@ -63,7 +63,7 @@ client_turn_in trace run client None = run
 client_turn_in trace run client (Some state) = with_client run client (client_turn trace run.host run.segment state)
 
 -- the client with a number, from 1
-abbrev pub client_at : List ClientRun → (client : ℕ) → Option ClientRun
+abbrev pub client_at : {Client : Type 0} → List Client → (client : ℕ) → Option Client
 client_at clients zero = None
 client_at clients (suc place) = slice_get clients place
 

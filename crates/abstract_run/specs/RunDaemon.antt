@@ -9,10 +9,10 @@ use Rattle.vmclock_page.specs.Host.{count_of}
 use Rattle.segment_layout.specs.declared.publication.Publication.{Publication}
 use Rattle.segment_layout.specs.declared.start.Start.{Start}
 use Rattle.segment_layout.specs.declared.start.Start.TheVariants.{Kept}
-use Rattle.status_machine.specs.declared.base.Base.{Base}
 use Rattle.status_machine.specs.declared.poll.Poll.{Poll}
 use Rattle.status_machine.specs.Incarnation.{Incarnation, base_at, record_at}
 use Rattle.status_machine.specs.Poll.{heard_of}
+use Rattle.status_machine.specs.Base.{base_number}
 use Rattle.segment_run.specs.SegmentRun.{SegmentRun, is_old, start_found, opening_length, opening_effect, number_shown, number_at, stored}
 use Rattle.abstract_run.specs.declared.event.Event.{Event}
 use Rattle.abstract_run.specs.declared.event.Event.TheVariants.{Opened, Moved, Published, Skipped, Stopped}
@@ -115,10 +115,6 @@ poll_of trace daemon asked =
       marker = asked.marker;
       heard = heard_of (poll_row trace daemon).reply;
     }
-
-abbrev pub base_number : Option Base → ℕ
-base_number None = 0
-base_number (Some base) = base.poll
 
 -- the publication of a poll, in a life, at a position: the record is that of looking back
 abbrev pub publication_of : SegmentRun → Life → Poll → Asked → (replied : ℕ) → Publication

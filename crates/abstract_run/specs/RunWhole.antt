@@ -7,7 +7,7 @@ use Rattle.clock_gate.specs.declared.trace.Trace.{Trace}
 use Rattle.abstract_run.specs.Schedule as schedule
 use Rattle.abstract_run.specs.Run.{Run, start, turn, client_at}
 use Rattle.abstract_run.specs.RunDaemon.{Work, Resting, DaemonRun}
-use Rattle.abstract_run.specs.RunClient.{CallRun, ClientRun}
+use Rattle.abstract_run.specs.RunClient.{ClientRun}
 
 -- ---- the jobs of the daemon: its polls
 
@@ -24,7 +24,8 @@ has_poll polls daemon = if is_resting daemon.work then nat_lt daemon.polled (len
 
 -- ---- the jobs of a client: its calls
 
-abbrev pub in_hand : Option CallRun → ℕ
+-- a job in hand counts one
+abbrev pub in_hand : {Job : Type 0} → Option Job → ℕ
 in_hand None = 0
 in_hand (Some call) = 1
 

@@ -13,12 +13,14 @@ use Rattle.seqlock.specs.Tries as tries
 use Rattle.seqlock.proofs.Tries as laws
 use Rattle.vmclock_page.specs.PageRead.{page_lock}
 use Rattle.vmclock_page.specs.PageRead as page
+use Rattle.vmclock_page.specs.declared.page_seen.PageSeen.{PageSeen}
+use Rattle.vmclock_page.specs.declared.page_seen.PageSeen.TheVariants as page_seen
 use Rattle.segment_layout.specs.Record.{RecordFields}
 use Rattle.shm_reader.specs.SegmentTries.{segment_lock}
 use Rattle.shm_reader.specs.SegmentTries as segment
 use Rattle.interval_now.specs.declared.stage.Stage.{Stage}
 use Rattle.interval_now.specs.declared.stage.Stage.TheVariants.{Segment, Clock, Page, Done}
-use Rattle.interval_now.specs.Call.{Call, IsCall, IsStage, IsEarly, started_call, act_at, act_of, after_segment, after_clock, after_page, stage_given, given, steps_at, steps_left, IsRowNumber}
+use Rattle.interval_now.specs.Call.{Call, IsCall, IsStage, IsEarly, started_call, act_at, act_of, after_segment, after_clock, after_page, stage_given, given, steps_at, steps_left, IsRowNumber, end_at, end_of, reading_taken, Agrees}
 
 -- where a stage can stand that has fewer steps left
 abbrev pub Less : ℕ → ℕ → Stage → Type 0
@@ -111,3 +113,27 @@ early_at clock act value moments row is =
     let low = number.0 in
     let high = number.1 in
     All-get_or KeepsMoments clock (value - 1) no_row (omega (arith, low, high)) moments
+
+-- ---- another clock
+
+agrees_after : (other : List ClockRow) (generation : ℕ) (rec : RecordFields) (reading : Reading) (read : SeqlockRead) (end : Option PageSeen) → end_at (after_page generation rec reading read end) ≡ None
+    → Agrees other (reading_taken (after_page generation rec reading read end)) → Agrees other (Some reading)
+agrees_after other generation rec reading read None on agrees = agrees
+agrees_after other generation rec reading read (Some (page_seen.Marker marker sequence)) on agrees = absurd (cc on)
+agrees_after other generation rec reading read (Some (page_seen.Busy first last)) on agrees = absurd (cc on)
+
+same_stage_given : (clock other : List ClockRow) (tries : ℕ) (support : Bool) (stage : Stage) (value : ℕ) → end_at (stage_given clock tries support stage value) ≡ None
+    → Agrees other (reading_taken (stage_given clock tries support stage value)) → (stage_given other tries support stage value ≡ stage_given clock tries support stage value) × Agrees other (reading_taken stage)
+same_stage_given clock other tries support (Segment read) value on agrees = (refl, tt)
+same_stage_given clock other tries true (Clock generation rec) value on agrees = (ap (λ (reading : Reading). Page generation rec reading (started tries)) agrees, tt)
+same_stage_given clock other tries false (Clock generation rec) value on agrees = absurd (cc on)
+same_stage_given clock other tries support (Page generation rec reading read) value on agrees =
+    (refl, agrees_after other generation rec reading (page.given read value) (page.end_of (page.given read value)) on agrees)
+same_stage_given clock other tries support (Done answer) value on agrees = absurd (cc on)
+
+-- a call that goes on is the same by every clock that has the reading that it has taken
+pub same_given : (clock other : List ClockRow) (call : Call) (value : ℕ) → end_of (given clock call value) ≡ None → Agrees other (reading_taken (given clock call value).stage)
+    → (given other call value ≡ given clock call value) × Agrees other (reading_taken call.stage)
+same_given clock other call value on agrees =
+    let same = same_stage_given clock other call.tries call.support call.stage value on agrees in
+    (ap (λ (stage : Stage). record call { stage = stage }) same.0, same.1)

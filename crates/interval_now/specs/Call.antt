@@ -1,6 +1,6 @@
 -- A client call, step by step: the tries to read the segment, the clock, where there is a page the tries to read it, and
 -- then the interval. This project's own.
-use Rattle.std.specs.Prelude.{◌≡◌, ◌≢◌, ℕ, ◌+◌, ◌*◌, ◌<◌, ◌≤◌, Bool, if◌then◌else◌, List, Option, Some, None, Result, Ok, Err, length}
+use Rattle.std.specs.Prelude.{◌≡◌, ◌≢◌, ℕ, ◌+◌, ◌*◌, ◌<◌, ◌≤◌, Bool, if◌then◌else◌, List, Option, Some, None, IfSome, Result, Ok, Err, length}
 use Rattle.clock_gate.specs.declared.act.Act.{Act}
 use Rattle.clock_gate.specs.declared.act.Act.TheVariants.{Load, End}
 use Rattle.clock_gate.specs.declared.clock_row.ClockRow.{ClockRow}
@@ -137,6 +137,15 @@ IsRowAt clock (Done answer) value = Unit {0}
 
 abbrev pub given : List ClockRow → Call → ℕ → Call
 given clock call value = record call { stage = stage_given clock call.tries call.support call.stage value }
+
+-- the reading that a call has taken and goes on with
+abbrev pub reading_taken : Stage → Option Reading
+reading_taken (Page generation rec reading read) = Some reading
+reading_taken other = None
+
+-- a clock has this reading
+abbrev pub Agrees : List ClockRow → Option Reading → Type 0
+Agrees clock taken = IfSome taken (λ reading. reading_at clock reading.row ≡ reading)
 
 -- where a call can stand: a read in hand still wants something
 abbrev pub IsStage : Stage → Type 0

@@ -1,14 +1,14 @@
 -- The daemon's lines of a report, and what they come to: the records published, each with its rows.
 use Rattle.std.specs.Prelude.{◌≡◌, ℕ, ◌+◌, ◌-◌, ◌*◌, ◌/◌, ◌≤◌, pos, Bool, true, false, ◌&&◌, ◌==◌, nat_lt, if◌then◌else◌, List, [], ◌∷◌, ◌++◌, length, slice_get, slice_index, Option, Some, None, is_some, Result, Ok, Err}
-use Rattle.clock_gate.specs.declared.clock_status.ClockStatus.TheVariants.{Unknown}
-use Rattle.clock_gate.specs.declared.trace.PollRow.{PollRow}
-use Rattle.clock_gate.specs.declared.trace.Trace.{Trace}
-use Rattle.clock_gate.specs.ClockRow.{reading_at}
 use Rattle.generation_word.specs.declared.layout.Layout.{Layout}
 use Rattle.generation_word.specs.declared.layout.Layout.TheVariants.{Two, Three}
 use Rattle.generation_word.specs.Layout.{period_of}
 use Rattle.generation_word.specs.Numbering.{generation_at}
 use Rattle.generation_word.specs.Header.{header_of}
+use Rattle.clock_gate.specs.declared.clock_status.ClockStatus.TheVariants.{Unknown}
+use Rattle.clock_gate.specs.declared.trace.PollRow.{PollRow}
+use Rattle.clock_gate.specs.declared.trace.Trace.{Trace}
+use Rattle.clock_gate.specs.ClockRow.{reading_at}
 use Rattle.segment_layout.specs.declared.image_fault.ImageFault.{ImageFault}
 use Rattle.segment_layout.specs.declared.publication.Publication.{Publication}
 use Rattle.segment_layout.specs.declared.start.Start.{Start}
@@ -16,10 +16,10 @@ use Rattle.segment_layout.specs.declared.start.Start.TheVariants.{Fresh, Kept, T
 use Rattle.segment_layout.specs.History.{start_seen}
 use Rattle.segment_layout.specs.Image.{image_of}
 use Rattle.segment_layout.specs.Record.{RecordFields}
-use Rattle.status_machine.specs.declared.base.Base.{Base}
 use Rattle.status_machine.specs.declared.poll.Poll.{Poll}
 use Rattle.status_machine.specs.Incarnation.{Incarnation, base_at, record_at}
 use Rattle.status_machine.specs.Poll.{heard_of}
+use Rattle.status_machine.specs.Base.{base_number}
 use Rattle.lawful_report.specs.declared.entry.Entry.{Entry}
 use Rattle.lawful_report.specs.Pages.{marker_at, last_page}
 use Rattle.lawful_report.specs.Points.{segment_at}
@@ -123,10 +123,6 @@ poll_at trace course asked page row =
       marker = marker_at trace page;
       heard = heard_of row.reply;
     }
-
-abbrev pub base_number : Option Base → ℕ
-base_number None = 0
-base_number (Some base) = base.poll
 
 -- what a poll publishes in its incarnation
 abbrev pub entry_of : Life → Poll → (replied page : ℕ) → Entry

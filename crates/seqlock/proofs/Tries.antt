@@ -7,9 +7,9 @@ use Rattle.std.proofs.Math.Nat.{mul-suc}
 use Rattle.std.proofs.Common.{length-take}
 use Rattle.std.proofs.lemmas.List.{take-append-drop}
 use Rattle.std.proofs.Math.Seq.{take-append_seam, drop-append_seam}
-use Rattle.clock_gate.specs.declared.act.Act.TheVariants.{End}
+use Rattle.clock_gate.specs.declared.act.Act.TheVariants.{Load, End}
 use Rattle.clock_gate.specs.Acts.{after, WereAsked}
-use Rattle.seqlock.specs.Tries.{Seqlock, Attempt, Wants, Absent, Failed, Read, Outcome, Unpublished, AllFailed, Found, Progress, Asks, Ends, act_of, end_of, SeqlockRead, started, goes_on, failed_try, with_attempt, IsOfOneTry, IsCalm, last_load, data_loads, attempt, tries_of, read_of, progress, read_act, read_end, given, IsStage, steps_at, steps_left, FollowsItsTries}
+use Rattle.seqlock.specs.Tries.{Seqlock, Attempt, Wants, Absent, Failed, Read, Outcome, Unpublished, AllFailed, Found, Progress, Asks, Ends, act_of, end_of, SeqlockRead, started, goes_on, failed_try, with_attempt, IsOfOneTry, IsCalm, last_load, data_loads, attempt, tries_of, read_of, progress, read_act, read_end, given, IsStage, IsReadWord, steps_at, steps_left, FollowsItsTries}
 
 module _ (lock : Seqlock) where
   -- ---- the values of one try
@@ -289,6 +289,30 @@ module _ (lock : Seqlock) where
   -- a read that wants something can be given a value
   pub open_act : (read : SeqlockRead) → IsStage lock read → read_act lock read ≢ End → IsOpen read
   open_act read stage asks = open_read read stage (act_none (progress lock read) asks)
+
+  -- ---- which words a read wants
+
+  same_wants : (a b : ℕ) → Wants a ≡ Wants b → a ≡ b
+  same_wants a b e = cc
+
+  same_load : (a b : ℕ) → Load a ≡ Load b → a ≡ b
+  same_load a b e = cc
+
+  wants_word : (values : List ℕ) (word : ℕ) → attempt lock values ≡ Wants word → IsReadWord lock word
+  wants_word [] word e = inl (sym (same_wants lock.number_word word e))
+  wants_word (first ∷ values) word e =
+      let few = wants_few first word values e in
+      let calm = attempt-calm first values few.0 in
+      elim (cases_lt (length values) lock.size) [
+        | inl below ↦ inr (length values, below, same_wants word (lock.first_word + length values) (sym e ∙ (calm ∙ data_loads-few first values below)))
+        | inr full ↦ inl (same_wants word lock.number_word (sym e ∙ (calm ∙ data_loads-full first values (let most = few.1 in omega (arith, most, full)))))
+      ]
+
+  pub read_word : (read : SeqlockRead) (word : ℕ) → IsStage lock read → read_act lock read ≡ Load word → IsReadWord lock word
+  read_word read word is act =
+      let open_ = open_act read is (λ ends. cc (sym act ∙ ends)) in
+      let same : word ≡ open_.word = same_load word open_.word (sym act ∙ ap act_of (open_asks read open_)) in
+      wants_word read.values word (open_.wants ∙ ap Wants (sym same))
 
   pub started-stage : (tries : ℕ) → IsStage lock (started tries)
   started-stage tries = record { of_one_try = tt; none_after = λ none. refl }

@@ -1,6 +1,6 @@
 -- A read, in so many tries, of words that a writer changes under a number. The number is odd while they are changed, so
 -- a try that finds an even number first and the same last has words of one writing (a seqlock). This project's own.
-use Rattle.std.specs.Prelude.{◌≡◌, ◌≢◌, ℕ, zero, suc, ◌+◌, ◌-◌, ◌*◌, ◌%◌, ◌<◌, ◌≤◌, Bool, false, nat_lt, ◌==◌, if◌then◌else◌, List, [], ◌∷◌, ◌++◌, length, take, drop, Option, Some, None}
+use Rattle.std.specs.Prelude.{◌≡◌, ◌≢◌, ◌⊎◌, ℕ, zero, suc, ◌+◌, ◌-◌, ◌*◌, ◌%◌, ◌<◌, ◌≤◌, Bool, false, nat_lt, ◌==◌, if◌then◌else◌, List, [], ◌∷◌, ◌++◌, length, take, drop, Option, Some, None}
 use Rattle.clock_gate.specs.declared.act.Act.{Act}
 use Rattle.clock_gate.specs.declared.act.Act.TheVariants.{Load, End}
 use Rattle.clock_gate.specs.Acts.{after, WereAsked}
@@ -142,6 +142,10 @@ module _ (lock : Seqlock) where
   pub record IsStage (read : SeqlockRead) : Type 0 where
     pub of_one_try : IsOfOneTry (attempt read.values)
     pub none_after : read.left ≡ 0 → read.values ≡ []
+
+  -- a word that a read can want: the one that holds the number, or one of those under it
+  abbrev pub IsReadWord : ℕ → Type 0
+  IsReadWord word = (word ≡ lock.number_word) ⊎ ((k : ℕ) × (k < lock.size) × (word ≡ lock.first_word + k))
 
   abbrev pub steps_at : SeqlockRead → Progress → ℕ
   steps_at read (Asks word) = (lock.size + 2) * read.left - length read.values

@@ -1,8 +1,8 @@
 //! Laws of every read.
 ghost use Rattle.std.specs.Prelude.{◌≡◌, ◌≢◌, ◌↔◌, ℕ, None};
-ghost use Rattle.clock_gate.specs.declared.act.Act.TheVariants.{End};
+ghost use Rattle.clock_gate.specs.declared.act.Act.TheVariants.{End, Load};
 ghost use Rattle.seqlock.specs.TriedRun.{IsToldByItsTries};
-ghost use Rattle.seqlock.specs.Tries.{Seqlock, SeqlockRead, started, read_act, read_end, IsStage, FollowsItsTries, TakesFewSteps, ComesNearer};
+ghost use Rattle.seqlock.specs.Tries.{Seqlock, SeqlockRead, started, read_act, read_end, IsStage, IsReadWord, FollowsItsTries, TakesFewSteps, ComesNearer};
 
 /// What a read promises that takes words under a number in so many tries, whatever the words and the number are.
 pub fn seqlock_laws()
@@ -11,6 +11,8 @@ pub fn seqlock_laws()
     // It ends, after at most the steps of all tries.
     ensures steps { TakesFewSteps }
     ensures nearer { ComesNearer }
+    // A word that it wants holds the number, or is one of those under it.
+    ensures words { (lock : Seqlock) (read : SeqlockRead) (word : ℕ) → IsStage lock read → read_act lock read ≡ Load word → IsReadWord lock word }
     // It has an end exactly where it wants nothing more.
     ensures ended { (lock : Seqlock) (read : SeqlockRead) → (read_end lock read ≡ None) ↔ (read_act lock read ≢ End) }
     // Its steps are those of tries that failed, one after another, and of the one that ended it; and the other way round.

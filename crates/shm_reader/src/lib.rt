@@ -3,7 +3,7 @@
 //! `SegmentReader` wants one load at a time: word 1 with the generation, words 2 to 9, and word 1 again, in so many tries.
 //! What it comes to, a whole record, tries that all failed, or that nothing was ever published, is what its tries come to by
 //! all the values that it was given, and is told by its steps try by try (`segment_read_laws`). Word 1 is compared whole, so
-//! a segment that was moved to another layout between the two loads fails the try. Stands on clock_gate, which has the laws
+//! a segment that was moved to another layout between the two loads fails the try. Stands on seqlock, which has the laws
 //! of such tries, and on the words of segment_layout.
 #![tactic(auto)]
 

@@ -3,3 +3,4 @@ pub mod Incarnation
 pub mod LastMark
 pub mod Step
 pub mod BaseMarker
+pub mod Base

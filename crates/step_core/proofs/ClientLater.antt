@@ -12,7 +12,7 @@ use Rattle.segment_run.specs.ShowsSegment.{IsSegment, IsSegmentLater}
 use Rattle.interval_now.specs.declared.stage.Stage.{Stage}
 use Rattle.interval_now.specs.declared.stage.Stage.TheVariants as stages
 use Rattle.interval_now.specs.Call.{Call}
-use Rattle.abstract_run.specs.Run.{tries_of}
+use Rattle.abstract_run.specs.Run.{tries_for}
 use Rattle.abstract_run.specs.Run as run_start
 use Rattle.abstract_run.specs.RunHost.{HostRun}
 use Rattle.abstract_run.specs.RunClient.{CallStage, Reading, Clocking, Paging, CallRun, ClientRun}
@@ -109,7 +109,7 @@ tries_by row left true some are = (some, are)
 tries_by row left false some are = are
 
 -- each call of a lawful trace has tries
-pub some_tries : (calls : List CallRow) (client : ℕ) → All IsCallRow calls → AreTries (tries_of calls client)
+pub some_tries : (calls : List CallRow) (client : ℕ) → All IsCallRow calls → AreTries (tries_for calls client)
 some_tries [] client all = tt
 some_tries (row ∷ calls) client all =
     let some = (All-head IsCallRow row calls all).tries.0 in

@@ -32,7 +32,8 @@ use Rattle.abstract_run.specs.RunDaemon.{DaemonRun, life_from, is_move, opening_
 use Rattle.step_core.specs.declared.hand.Job.{Job}
 use Rattle.step_core.specs.SharedDaemon.{DaemonState, opening_by}
 use Rattle.step_core.specs.ShowsDaemon.{IsWhere, IsJob, given_after, HasMagicIn}
-use Rattle.step_core.proofs.SegmentOpen.{IsInOpening, steps_for, number_left, steps_are}
+use Rattle.step_core.proofs.SegmentOpen.{IsInOpening, number_left, steps_are}
+use Rattle.writer_reopen.proofs.Found.{steps_for}
 use Rattle.step_core.proofs.DaemonFits.{begun_fits}
 use Rattle.step_core.proofs.DaemonLeaves.{Leaves}
 

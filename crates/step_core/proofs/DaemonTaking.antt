@@ -13,7 +13,6 @@ use Rattle.clock_gate.specs.Trace.{IsClockRow}
 use Rattle.segment_layout.specs.declared.publication.Publication.{Publication}
 use Rattle.segment_layout.specs.declared.words.TheConstants.{MAGIC}
 use Rattle.segment_layout.specs.Record.{RecordFields}
-use Rattle.status_machine.specs.declared.base.Base.{Base}
 use Rattle.status_machine.specs.declared.daemon.Daemon.{Daemon}
 use Rattle.status_machine.specs.declared.poll.Poll.{Poll}
 use Rattle.status_machine.specs.Incarnation.{base_at, record_at}
@@ -27,10 +26,10 @@ use Rattle.segment_run.proofs.SegmentLater.{later_same}
 use Rattle.writer_reopen.specs.declared.order.Order.{Order}
 use Rattle.writer_reopen.specs.declared.stage.Sight.{Sight}
 use Rattle.writer_reopen.specs.declared.stage.Stage.TheVariants as stages
-use Rattle.writer_reopen.specs.Poll as poll_specs
 use Rattle.writer_reopen.specs.Poll.{marker_seen, sequence_seen, poll_for, daemon_for, publication_for, taken_for}
 use Rattle.abstract_run.specs.RunHost.{HostRun}
-use Rattle.abstract_run.specs.RunDaemon.{Life, Asked, Storing, DaemonRun, poll_row, poll_of, base_number, publication_of, taken}
+use Rattle.abstract_run.specs.RunDaemon.{Life, Asked, Storing, DaemonRun, poll_row, poll_of, publication_of, taken}
+use Rattle.status_machine.specs.Base.{base_number}
 use Rattle.step_core.specs.declared.hand.Polling.{Polling}
 use Rattle.step_core.specs.declared.marks.PollMarks.{PollMarks}
 use Rattle.step_core.specs.SharedDaemon.{DaemonState, polling_with, polling_after, noted_clock}
@@ -59,10 +58,6 @@ pub even_next : (segment : SegmentRun) → even_after (period_of segment.layout)
 even_next segment = even_by segment segment.is_writing refl
 
 -- ---- the poll, and what it leads to
-
-base_same : (base : Option Base) → poll_specs.base_number base ≡ base_number base
-base_same None = refl
-base_same (Some base) = refl
 
 -- the machine takes the run's poll
 poll_same : (trace : Trace) (run : DaemonRun) (before : Asked) (order : Order) (asked : Reading) (seen : Option Sight)
@@ -97,12 +92,12 @@ publication_same trace segment run life before order asked seen replied is same 
     let poll_is : poll_for order asked seen ≡ poll_of trace run before = poll_same trace run before order asked seen is at marked in
     let even : even_after (period_of order.layout) order.generation ≡ number_at segment (segment.position + 1) =
     ap (λ (layout : Layout). even_after (period_of layout) order.generation) same ∙ ap (even_after (period_of segment.layout)) number ∙ even_next segment in
-    let base : poll_specs.base_number (daemon_for order asked seen).base ≡ base_number (base_at life.from (poll_of trace run before ∷ life.past)) =
-    ap (λ (poll : Poll). poll_specs.base_number (daemon_step order.daemon poll).base) poll_is ∙ base_same (daemon_step order.daemon (poll_of trace run before)).base ∙ ap base_number past.base in
+    let base : base_number (daemon_for order asked seen).base ≡ base_number (base_at life.from (poll_of trace run before ∷ life.past)) =
+    ap (λ (poll : Poll). base_number (daemon_step order.daemon poll).base) poll_is ∙ ap base_number past.base in
     let rec : record_of (daemon_for order asked seen) (poll_for order asked seen) ≡ record_at life.from (poll_of trace run before) life.past =
     ap (λ (poll : Poll). record_of (daemon_step order.daemon poll) poll) poll_is ∙ record_of-shown life.from life.past (daemon_step order.daemon (poll_of trace run before)) (poll_of trace run before) past in
     publication_parts order.number run.polled (even_after (period_of order.layout) order.generation) (number_at segment (segment.position + 1)) asked.row before.row (sequence_seen seen) before.sequence replied
-    (poll_specs.base_number (daemon_for order asked seen).base) (base_number (base_at life.from (poll_of trace run before ∷ life.past)))
+    (base_number (daemon_for order asked seen).base) (base_number (base_at life.from (poll_of trace run before ∷ life.past)))
     (record_of (daemon_for order asked seen) (poll_for order asked seen)) (record_at life.from (poll_of trace run before) life.past)
     is.number even (ap (λ (reading : Reading). reading.row) at) counted base rec
 

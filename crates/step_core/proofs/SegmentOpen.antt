@@ -1,8 +1,7 @@
 -- The steps of an opening: the words show the segment after each.
-use Rattle.std.proofs.Common.{◌≡◌, ℕ, zero, suc, ◌+◌, ◌%◌, ◌<◌, ◌≤◌, Bool, true, false, List, [], ◌∷◌, refl, ap, sym, ◌∙◌, subst, arith, inl, inr}
-use Rattle.std.specs.Prelude.{◌==◌, if◌then◌else◌, slice_index, slice_set}
+use Rattle.std.proofs.Common.{◌≡◌, ℕ, zero, suc, ◌+◌, ◌<◌, ◌≤◌, Bool, true, false, List, [], ◌∷◌, refl, ap, sym, ◌∙◌, subst, arith, inl, inr}
+use Rattle.std.specs.Prelude.{if◌then◌else◌, slice_index, slice_set}
 use Rattle.std.proofs.lemmas.Bool.{cases_lt}
-use Rattle.std.proofs.lemmas.Bool.Decides.{nat_tests}
 use Rattle.std.proofs.lemmas.List.{get_or-set_same, get_or-set_other, length-set}
 use Rattle.generation_word.specs.declared.layout.Layout.{Layout}
 use Rattle.generation_word.specs.declared.layout.Layout.TheVariants.{Two, Three}
@@ -24,7 +23,8 @@ use Rattle.segment_run.proofs.SegmentHeader.{number_at_rest, number_in_update, n
 use Rattle.segment_run.proofs.SegmentLater.{later_same}
 use Rattle.segment_run.proofs.SegmentEnded.{headed_is, headed_later, in_update_is, in_update_later, after_update_is, after_update_later, after_update_number, after_update_header}
 use Rattle.segment_run.proofs.SegmentStore.{rest_kept, header_stored}
-use Rattle.writer_reopen.specs.Opening.{is_old, fresh_steps, torn_steps, kept_steps, later_steps, opening_steps}
+use Rattle.writer_reopen.specs.Opening.{is_old, opening_steps}
+use Rattle.writer_reopen.proofs.Found.{steps_for, IsFoundBy, steps_by_found}
 use Rattle.step_core.specs.SharedWords.{after_act, value_of}
 use Rattle.step_core.specs.ShowsDaemon.{given_after, StandsIn, HasMagicIn}
 
@@ -38,12 +38,6 @@ pub record IsInOpening (segment : SegmentRun) (start : Start) (old : Bool) (step
   pub tells : generation_in header ≡ generation_of_start start
   pub unchanged : steps < 11 → header_shown segment ≡ header
   pub unheaded : old ≡ true → steps < 11 → segment.is_headed ≡ false
-
--- the steps of an opening, by what it found
-abbrev pub steps_for : Layout → (old : Bool) → Start → List Act
-steps_for layout old Fresh = Load 0 ∷ Load 1 ∷ fresh_steps layout
-steps_for layout old (Torn generation) = Load 0 ∷ Load 1 ∷ torn_steps old generation
-steps_for layout old (Kept generation rec) = Load 0 ∷ Load 1 ∷ kept_steps old generation
 
 -- the number that an opening leaves in word 1
 abbrev pub number_left : (old : Bool) → Start → ℕ
@@ -71,44 +65,24 @@ old_three : (layout : Layout) (header : ℕ) → is_old_in layout header ≡ tru
 old_three Two header is = absurd (cc is)
 old_three Three header is = refl
 
-fresh_are : (layout : Layout) (header : ℕ) → generation_in header ≡ 0 → later_steps layout header ≡ fresh_steps layout
-fresh_are layout header none = let test : (generation_in header == 0) ≡ true = grind (arith, nat_tests) in rw test refl
-
-torn_are : (layout : Layout) (header : ℕ) → generation_in header % 2 ≡ 1 → later_steps layout header ≡ torn_steps (is_old layout header) (generation_in header)
-torn_are layout header odd =
-    let some : (generation_in header == 0) ≡ false = grind (arith, nat_tests) in
-    let test : (generation_in header % 2 == 1) ≡ true = grind (arith, nat_tests) in
-    rw (some, test) refl
-
-kept_are : (layout : Layout) (header : ℕ) → 0 < generation_in header → generation_in header % 2 ≡ 0 → later_steps layout header ≡ kept_steps (is_old layout header) (generation_in header)
-kept_are layout header positive even =
-    let some : (generation_in header == 0) ≡ false = grind (arith, nat_tests) in
-    let test : (generation_in header % 2 == 1) ≡ false = grind (arith, nat_tests) in
-    rw (some, test) refl
-
-pub steps_are : (segment : SegmentRun) (start : Start) (old : Bool) (steps header : ℕ) → IsInOpening segment start old steps header → opening_steps segment.layout header ≡ steps_for segment.layout old start
-steps_are segment Fresh old steps header is = ap (λ (acts : List Act). Load 0 ∷ Load 1 ∷ acts) (fresh_are segment.layout header is.tells)
-steps_are segment (Torn generation) old steps header is =
+found_by_header : (segment : SegmentRun) (start : Start) (old : Bool) (steps header : ℕ) → IsInOpening segment start old steps header → IsFoundBy (generation_in header) start
+found_by_header segment Fresh old steps header is = is.tells
+found_by_header segment (Torn generation) old steps header is =
     let number = number_in_update segment is.stands.0 in
     let even = number_even segment segment.position in
     let same = is.stands.1 in
-    let tells : generation_in header ≡ generation = is.tells in
-    let same_old : is_old segment.layout header ≡ old = old_same segment.layout header ∙ sym is.is_old in
-    ap (λ (acts : List Act). Load 0 ∷ Load 1 ∷ acts)
-    (torn_are segment.layout header (omega (arith, tells, same, number, even))
-    ∙ ap (λ (b : Bool). torn_steps b (generation_in header)) same_old
-    ∙ ap (torn_steps old) tells)
-steps_are segment (Kept generation rec) old steps header is =
+    (is.tells, omega (arith, same, number, even))
+found_by_header segment (Kept generation rec) old steps header is =
     let above = is.stands.0 in
     let same = is.stands.1.0 in
     let even = number_even segment segment.position in
     let positive = number_positive segment segment.position (omega (arith, above)) in
-    let tells : generation_in header ≡ generation = is.tells in
-    let same_old : is_old segment.layout header ≡ old = old_same segment.layout header ∙ sym is.is_old in
-    ap (λ (acts : List Act). Load 0 ∷ Load 1 ∷ acts)
-    (kept_are segment.layout header (omega (arith, tells, same, positive)) (omega (arith, tells, same, even))
-    ∙ ap (λ (b : Bool). kept_steps b (generation_in header)) same_old
-    ∙ ap (kept_steps old) tells)
+    (is.tells, omega (arith, same, even), omega (arith, same, positive))
+
+pub steps_are : (segment : SegmentRun) (start : Start) (old : Bool) (steps header : ℕ) → IsInOpening segment start old steps header → opening_steps segment.layout header ≡ steps_for segment.layout old start
+steps_are segment start old steps header is =
+    steps_by_found segment.layout header start (found_by_header segment start old steps header is)
+    ∙ ap (λ (b : Bool). steps_for segment.layout b start) (old_same segment.layout header ∙ sym is.is_old)
 
 -- ---- a load
 

@@ -18,7 +18,8 @@ use Rattle.segment_run.specs.ShowsSegment.{IsSegment, ShowsSegment}
 use Rattle.segment_run.proofs.SegmentHeader.{told_three, number_told, number_at_rest, magic_of_header}
 use Rattle.writer_reopen.specs.Opening.{move_steps, opening_steps}
 use Rattle.step_core.specs.ShowsDaemon.{StandsIn, HasMagicIn}
-use Rattle.step_core.proofs.SegmentOpen.{IsInOpening, OpeningShows, steps_for, steps_are, fresh_load, fresh_magic, fresh_header, torn_load, torn_header, kept_load, move_begins, move_ends}
+use Rattle.step_core.proofs.SegmentOpen.{IsInOpening, OpeningShows, steps_are, fresh_load, fresh_magic, fresh_header, torn_load, torn_header, kept_load, move_begins, move_ends}
+use Rattle.writer_reopen.proofs.Found.{steps_for}
 
 -- ---- a step
 

@@ -55,15 +55,11 @@ work_rests trace host segment run (Writing storing) (hands.Opening reopening) sh
 work_rests trace host segment run (Writing storing) (hands.Polling polling) shows = refl
 
 call_in_hand : (trace : Trace) (host : HostRun) (segment : SegmentRun) (run : Option CallRun) (call : Option Call) (marks : Marks) → ShowsCallOf trace host segment run call marks
-    → (shared_client.in_hand call ≡ whole.in_hand run) × (is_some call ≡ is_some run)
+    → (whole.in_hand call ≡ whole.in_hand run) × (is_some call ≡ is_some run)
 call_in_hand trace host segment None None marks shows = (refl, refl)
 call_in_hand trace host segment None (Some call) marks shows = absurd shows
 call_in_hand trace host segment (Some run) None marks shows = absurd shows
 call_in_hand trace host segment (Some run) (Some call) marks shows = (refl, refl)
-
-left_same : (left : List ℕ) → shared_client.is_left left ≡ whole.is_left left
-left_same [] = refl
-left_same (tries ∷ left) = refl
 
 client_ended : (trace : Trace) (host : HostRun) (segment : SegmentRun) (number : ℕ) (run : Option ClientRun) (client : Option ClientState) → ShowsClientOf trace host segment number run client
     → shareds.ended_of client ≡ whole.calls_ended run
@@ -73,7 +69,7 @@ client_ended trace host segment number None (Some client) shows = absurd shows
 client_ended trace host segment number (Some run) None shows = absurd shows
 client_ended trace host segment number (Some run) (Some client) shows =
     let hand = (call_in_hand trace host segment run.call client.call client.marks shows.call).0 in
-    ap (λ (n : ℕ). n - shared_client.in_hand client.call) shows.begun ∙ ap (λ (n : ℕ). run.begun - n) hand
+    ap (λ (n : ℕ). n - whole.in_hand client.call) shows.begun ∙ ap (λ (n : ℕ). run.begun - n) hand
 
 client_has : (trace : Trace) (host : HostRun) (segment : SegmentRun) (number : ℕ) (run : Option ClientRun) (client : Option ClientState) → ShowsClientOf trace host segment number run client
     → shareds.has_job_of client ≡ whole.has_call run
@@ -82,9 +78,8 @@ client_has trace host segment number None (Some client) shows = absurd shows
 client_has trace host segment number (Some run) None shows = absurd shows
 client_has trace host segment number (Some run) (Some client) shows =
     let hand = (call_in_hand trace host segment run.call client.call client.marks shows.call).1 in
-    ap (λ (some : Bool). if some then true else shared_client.is_left client.left) hand
-    ∙ ap (λ (left : List ℕ). if is_some run.call then true else shared_client.is_left left) shows.left
-    ∙ ap (λ (left : Bool). if is_some run.call then true else left) (left_same run.left)
+    ap (λ (some : Bool). if some then true else whole.is_left client.left) hand
+    ∙ ap (λ (left : List ℕ). if is_some run.call then true else whole.is_left left) shows.left
 
 -- as many jobs of a party have ended
 pub ended_shows : (trace : Trace) (run : Run) (w : Shared) (who : Party) → Shows trace run w → shareds.jobs_ended w who ≡ whole.jobs_ended run who

@@ -1,5 +1,5 @@
 -- What is known of words that are accepted as a page, and of two that have the same constant fields.
-use Rattle.std.proofs.Common.{◌≡◌, ◌≤◌, ◌%◌, ◌+◌, ◌*◌, ◌^◌, ◌∙◌, ℕ, Bool, true, false, List, [], ◌∷◌, slice_index, refl, sym, ap, arith}
+use Rattle.std.proofs.Common.{◌≡◌, ◌<◌, ◌≤◌, ◌%◌, ◌+◌, ◌*◌, ◌^◌, ◌∙◌, ℕ, Bool, true, false, List, [], ◌∷◌, slice_index, refl, sym, ap, arith}
 use Rattle.std.specs.Prelude.{Option, Some, None, Result, Ok, Err, IsOk, ◌==◌, ◌&&◌}
 use Rattle.std.proofs.lemmas.Bool.{eqb-true, leb-true}
 use Rattle.vmclock_page.specs.ClockPage.{ClockPage}
@@ -8,6 +8,7 @@ use Rattle.vmclock_page.specs.Numbers.{number}
 use Rattle.vmclock_page.specs.Page.{IsClockPage, page_at, page_of, page_unless, first_fault, tests}
 use Rattle.vmclock_page.specs.Words.{AreWords, bytes_of_words, page_words, pads_of, word_with_count, constants_in_word}
 use Rattle.vmclock_page.specs.Rows.{page_of_words, AreAlike, IsPageRowOf}
+use Rattle.vmclock_page.specs.Host.{count_of}
 use Rattle.vmclock_page.specs.HostRows.{StartsEven}
 use Rattle.vmclock_page.specs.declared.fault.PageFault.{PageFault}
 use Rattle.vmclock_page.specs.declared.layout.TheConstants.{MAGIC, VERSION, PAGE_BYTES}
@@ -88,15 +89,14 @@ same_at start words (Err f) s are_start are_words is_start is_words alike = absu
 pub same_constants : (start words : List ℕ) → AreWords start → AreWords words → IsPageRowOf start words → SameConstants start words
 same_constants start words are_start are_words alike = same_at start words _ _ are_start are_words refl refl alike
 
+-- word 1 fits and has an even count: that is all
+pub even_starts : (start : List ℕ) → slice_index start 1 < 2 ^ 64 → count_of (Some start) % 2 ≡ 0 → StartsEven start
+even_starts start fits even = record { word = omega arith; even = even; small = omega arith }
+
 starts_at : (start : List ℕ) (r : Result ClockPage PageFault) → AreWords start → page_of_words start ≡ r → IsOk r → StartsEven start
 starts_at start (Ok p) are is ok =
     let page = page_is (bytes_of_words start) p is in
-    let fits = are.fit 1 in
-    record {
-      word = omega arith;
-      even = ap (λ (n : ℕ). n % 2) (sym (seq_count-found start p are page)) ∙ page.even;
-      small = omega arith;
-    }
+    even_starts start (are.fit 1) (ap (λ (n : ℕ). n % 2) (sym (seq_count-found start p are page)) ∙ page.even)
 starts_at start (Err f) are is ok = absurd (cc ok)
 
 -- the start page's sequence count is even

@@ -8,7 +8,7 @@
 //! `HostMachine` does the rows of the clock and of the page store by store, with an odd sequence count while a page is
 //! written; `host_laws` says what its stores come to. `PageReader` reads the marker load by load, and takes it only under an
 //! even sequence count that has not changed; `page_read_laws` says what a read comes to by all that it loaded. Stands on
-//! `clock_gate`, for the acts of machines and reads under a number, and on `byteorder`.
+//! `clock_gate`, for the acts of machines, `seqlock`, for reads under a number, and `byteorder`.
 #![tactic(auto)]
 
 mod constants;

@@ -1,11 +1,11 @@
 //! What the machines promise over whole lists of values, whatever they are given.
-ghost use Rattle.std.specs.Prelude.{◌≡◌, ◌≢◌, ◌+◌, ◌^◌, ◌<◌, ℕ, List, Some};
+ghost use Rattle.std.specs.Prelude.{◌≡◌, ◌≢◌, ◌+◌, ◌%◌, ◌^◌, ◌<◌, ℕ, List, Some, slice_index};
 ghost use Rattle.clock_gate.specs.declared.trace.HostRow.{HostRow};
 ghost use Rattle.seqlock.specs.Tries.{SeqlockRead, Unpublished, read_end};
 ghost use Rattle.vmclock_page.specs.Words.{AreWords, word_with_count, count_in_word, constants_in_word};
 ghost use Rattle.vmclock_page.specs.Counting.{count_of_page, page_number_of};
 ghost use Rattle.vmclock_page.specs.Rows.{IsStartPage};
-ghost use Rattle.vmclock_page.specs.Host.{Host, IsHost, begun, raised};
+ghost use Rattle.vmclock_page.specs.Host.{Host, IsHost, begun, raised, count_of};
 ghost use Rattle.vmclock_page.specs.HostRows.{MakesStores, ComesNearer, LeavesItsWords, StartsEven};
 ghost use Rattle.vmclock_page.specs.PageRead.{page_lock};
 ghost use Rattle.vmclock_page.specs.PageTries.{TakesAWord, FollowsItsTries};
@@ -19,6 +19,7 @@ pub fn host_laws()
 
     // The sequence counts are those of the pages, counted from the start page, and stand in word 1.
     ensures starts { (start : List ℕ) → AreWords start → IsStartPage (Some start) → StartsEven start }
+    ensures even { (start : List ℕ) → slice_index start 1 < 2 ^ 64 → count_of (Some start) % 2 ≡ 0 → StartsEven start }
     ensures counts { (start page : ℕ) → raised 2 (count_of_page start page) ≡ count_of_page start (page + 1) }
     ensures numbers { (start page : ℕ) → start < 2 ^ 32 → page < 2 ^ 31 → page_number_of start (count_of_page start page) ≡ page }
     ensures updating { (start page : ℕ) → start < 2 ^ 32 → page < 2 ^ 31 → page_number_of start (raised 1 (count_of_page start page)) ≡ page }

@@ -5,3 +5,4 @@ pub mod InOrder
 pub mod Openings
 pub mod Polls
 pub mod OpeningLaws
+pub mod Found

@@ -5,8 +5,7 @@ use Rattle.std.proofs.lemmas.Bool.{cases_lt}
 use Rattle.std.proofs.lemmas.Bool.Decides.{nat_tests}
 use Rattle.std.proofs.lemmas.List.{append-nil, get_or_past, get_or-take, length-append, length-take-le, take-take, take_more_set}
 use Rattle.generation_word.specs.declared.layout.Layout.{Layout}
-use Rattle.generation_word.specs.Header.{header_of}
-use Rattle.generation_word.specs.Header.{generation_in}
+use Rattle.generation_word.specs.Header.{header_of, generation_in}
 use Rattle.clock_gate.specs.declared.act.Act.{Act}
 use Rattle.clock_gate.specs.declared.act.Act.TheVariants.{End}
 use Rattle.segment_layout.specs.declared.start.Start.{Start}

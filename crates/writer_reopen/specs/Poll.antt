@@ -12,10 +12,10 @@ use Rattle.vmclock_page.specs.declared.page_seen.PageSeen.{PageSeen}
 use Rattle.vmclock_page.specs.declared.page_seen.PageSeen.TheVariants.{Marker, Busy}
 use Rattle.vmclock_page.specs.PageRead.{page_lock, seen_of}
 use Rattle.segment_layout.specs.declared.publication.Publication.{Publication}
-use Rattle.status_machine.specs.declared.base.Base.{Base}
 use Rattle.status_machine.specs.declared.daemon.Daemon.{Daemon}
 use Rattle.status_machine.specs.declared.poll.Poll.{Poll}
 use Rattle.status_machine.specs.Step.{daemon_step, record_of}
+use Rattle.status_machine.specs.Base.{base_number}
 use Rattle.shm_writer.specs.Publisher.{stores}
 use Rattle.writer_reopen.specs.declared.order.Order.{Order}
 use Rattle.writer_reopen.specs.declared.polled.Polled.{Polled}
@@ -46,11 +46,6 @@ marker_seen (Some sight) = Some sight.marker
 abbrev pub sequence_seen : Option Sight → ℕ
 sequence_seen None = 0
 sequence_seen (Some sight) = sight.sequence
-
--- the number of the poll that gave as-of and bound, or 0
-abbrev pub base_number : Option Base → ℕ
-base_number None = 0
-base_number (Some base) = base.poll
 
 -- the poll that the daemon takes: with the first reading
 abbrev pub poll_for : Order → Reading → Option Sight → Poll

@@ -7,7 +7,8 @@ ghost use Rattle.vmclock_page.specs.PageRead.{page_lock, act_of, given, end_of};
 ghost use Rattle.shm_writer.specs.Publisher.{publishing_given};
 ghost use Rattle.writer_reopen.specs.declared.stage.TheConstants.{CLOCK_WORD};
 ghost use Rattle.writer_reopen.specs.Progress.{act_of as wanted_act};
-ghost use Rattle.writer_reopen.specs.Poll.{AreRows, reading_at, base_number, marker_seen, sequence_seen, poll_for, taken_for, storing_of};
+ghost use Rattle.writer_reopen.specs.Poll.{AreRows, reading_at, marker_seen, sequence_seen, poll_for, taken_for, storing_of};
+ghost use Rattle.status_machine.specs.Base.{base_number};
 ghost use Rattle.writer_reopen.specs.PollMachine.{stage_asked, stage_looked, stage_taken, stage_given, stage_progress, IsBeforeStores, IsUpdate, IsPollStage, stage_steps, DaemonFits, OrderFits, StageFits};
 
 use crate::order::Order;

@@ -1,6 +1,7 @@
 use Rattle.interval_now.proofs.CallCompletes.{completes}
 use Rattle.interval_now.proofs.CallFollows.{follows_its_values}
 use Rattle.interval_now.proofs.CallRun.{call_did, call_did_so}
+use Rattle.interval_now.proofs.CallSteps.{same_given}
 use Rattle.interval_now.proofs.laws.call_laws.Goals as goal
 
 pub returns-clause-follows : goal.returns-clause-follows
@@ -11,3 +12,6 @@ returns-clause-told c = λ clock tries support touches answer some. (call_did cl
 
 pub returns-clause-completes : goal.returns-clause-completes
 returns-clause-completes c = completes
+
+pub returns-clause-same : goal.returns-clause-same
+returns-clause-same c = same_given

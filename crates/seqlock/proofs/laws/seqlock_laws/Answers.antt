@@ -20,3 +20,6 @@ returns-clause-begins c = λ lock n. tries.started-stage lock n
 
 pub returns-clause-told : goal.returns-clause-told
 returns-clause-told c = λ lock n touches outcome. (λ came. runs.did lock n touches outcome came.0 came.1, runs.did_so lock n touches outcome)
+
+pub returns-clause-words : goal.returns-clause-words
+returns-clause-words c = λ lock. tries.read_word lock
