@@ -5,14 +5,14 @@ use Rattle.std.proofs.lemmas.Int.{ints}
 use Rattle.std.proofs.lemmas.List.Elements.{All-weaker}
 use Rattle.clock_gate.specs.declared.trace.Trace.{Trace}
 use Rattle.vmclock_page.specs.Host.{count_of}
-use Rattle.civil_time.specs.Civil.{IsInstant}
 use Rattle.interval_now.specs.declared.answers.Interval.{Interval}
 use Rattle.interval_now.specs.declared.answers.Answer.TheVariants as answers
 use Rattle.interval_now.specs.Interval.{KeepsEnds}
-use Rattle.step_core.specs.declared.event.Event.{Event}
-use Rattle.step_core.specs.declared.event.Event.TheVariants as events
-use Rattle.step_core.specs.IntervalEnds.{EventKeepsEnds}
-use Rattle.step_core.specs.RunWhole.{run_of}
+use Rattle.abstract_run.specs.declared.event.Event.{Event}
+use Rattle.abstract_run.specs.declared.event.Event.TheVariants as events
+use Rattle.abstract_run.specs.IntervalEnds.{EventKeepsEnds}
+use Rattle.abstract_run.specs.RunWhole.{run_of}
+use Rattle.civil_time.specs.Civil.{IsInstant}
 use Rattle.bound_cli.specs.Civil.{HasDates}
 use Rattle.bound_cli.specs.Replay.{printed_of}
 

@@ -3,7 +3,7 @@ use Rattle.std.proofs.Common.{◌≡◌, ◌+◌, ◌<◌, ◌≤◌, ◌++◌, 
 use Rattle.std.specs.List.{flat_map}
 use Rattle.std.proofs.lemmas.List.{drop_more}
 use Rattle.std.proofs.lemmas.List.Concat.{flat_map-cons}
-use Rattle.step_core.specs.declared.event.Event.{Event}
+use Rattle.abstract_run.specs.declared.event.Event.{Event}
 use Rattle.bound_cli.specs.declared.times.Times.{Times}
 use Rattle.bound_cli.specs.declared.totals.Totals.{Totals}
 use Rattle.bound_cli.specs.Civil.{line_with}

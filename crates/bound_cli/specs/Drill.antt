@@ -1,8 +1,8 @@
 -- What is told of a generated day.
 use Rattle.std.specs.Prelude.{ℕ, List, ◌++◌, codes, decimal}
 use Rattle.clock_gate.specs.declared.trace.Trace.{Trace}
-use Rattle.step_core.specs.RunWhole.{run_of}
 use Rattle.drill_day.specs.Day.{day_of}
+use Rattle.abstract_run.specs.RunWhole.{run_of}
 use Rattle.bound_cli.specs.Replay.{summary_text}
 
 -- `drill,SEED,POLLS`

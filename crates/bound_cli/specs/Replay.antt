@@ -9,13 +9,13 @@ use Rattle.vmclock_page.specs.Counting.{page_number_of}
 use Rattle.vmclock_page.specs.Host.{count_of}
 use Rattle.interval_now.specs.declared.answers.Answer.{Answer}
 use Rattle.interval_now.specs.declared.answers.Answer.TheVariants as answers
-use Rattle.step_core.specs.declared.event.Event.{Event}
-use Rattle.step_core.specs.declared.event.Event.TheVariants as events
-use Rattle.step_core.specs.RunWhole.{run_of}
+use Rattle.abstract_run.specs.declared.event.Event.{Event}
+use Rattle.abstract_run.specs.declared.event.Event.TheVariants as events
+use Rattle.abstract_run.specs.RunWhole.{run_of}
+use Rattle.run_promises.specs.Judged.{premises_of}
 use Rattle.lawful_report.specs.declared.printed.Printed.{Printed}
 use Rattle.lawful_report.specs.declared.printed.Printed.TheVariants as lines
 use Rattle.lawful_report.specs.Lines.{line_text}
-use Rattle.run_promises.specs.Judged.{premises_of}
 use Rattle.trace_reader.specs.Grammar.{trace_in}
 use Rattle.trace_reader.specs.declared.trace_error.TraceFault.{TraceFault}
 use Rattle.bound_cli.specs.declared.times.Times.{Times}

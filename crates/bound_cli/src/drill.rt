@@ -3,7 +3,7 @@ ghost use Rattle.std.specs.Prelude.{◌≡◌, ◌≤◌, ◌++◌, IfOk, OnOk};
 ghost use Rattle.std.specs.String.{string_bytes};
 ghost use Rattle.drill_day.specs.declared.limits.TheConstants.{FEWEST_DAY_POLLS, MOST_DAY_POLLS};
 ghost use Rattle.drill_day.specs.Day.{day_of};
-ghost use Rattle.step_core.specs.SharedReady.{CanRun};
+ghost use Rattle.abstract_run.specs.Given.{CanRun};
 ghost use Rattle.bound_cli.specs.Drill.{drill_line, drill_report, summary_of};
 
 use crate::report::put_summary;

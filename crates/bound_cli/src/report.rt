@@ -1,10 +1,10 @@
 //! The report of a run: a line for each of its events, their counts, and whether the promises of its answers were kept.
 ghost use Rattle.std.specs.Prelude.{◌≡◌, ◌≤◌, ◌++◌, length, IfOk, OnOk};
 ghost use Rattle.std.specs.String.{string_bytes};
-ghost use Rattle.step_core.specs.declared.limits.TheConstants.{MOST_EVENTS};
-ghost use Rattle.step_core.specs.SharedReady.{CanRun};
+ghost use Rattle.abstract_run.specs.declared.limits.TheConstants.{MOST_EVENTS};
+ghost use Rattle.abstract_run.specs.Given.{CanRun};
 ghost use Rattle.run_promises.specs.Judged.{premises_of};
-ghost use Rattle.step_core.specs.RunWhole.{run_of};
+ghost use Rattle.abstract_run.specs.RunWhole.{run_of};
 ghost use Rattle.vmclock_page.specs.Host.{count_of};
 ghost use Rattle.bound_cli.specs.Replay.{counts_of, lines_of, page_of, printed_of, report_text, summary_text};
 
@@ -12,13 +12,13 @@ use crate::civil::put_line_with;
 use crate::premises_line::put_premises;
 use crate::times::Times;
 use crate::totals::{Totals, totals_of};
+use abstract_run::Event;
 use clock_gate::{Memory, Trace};
 use interval_now::Answer;
 use lawful_report::{Printed, put_line};
 use run_promises::{Premises, any_run};
 use run_verdict::judged_run;
 use std::alloc::{AllocError, Global};
-use step_core::Event;
 use vmclock_page::page_number;
 
 // Room for a line: most are shorter, and a text grows where they aren't.

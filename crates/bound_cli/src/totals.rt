@@ -1,11 +1,11 @@
 //! What a report counts.
 ghost use Rattle.std.specs.Prelude.{◌≡◌, ◌≤◌, ◌+◌, ℕ, length};
-ghost use Rattle.step_core.specs.declared.limits.TheConstants.{MOST_EVENTS};
+ghost use Rattle.abstract_run.specs.declared.limits.TheConstants.{MOST_EVENTS};
 ghost use Rattle.bound_cli.specs.Replay.{AreUpTo, answered, counted, counted_all, no_totals, timed};
 
+use abstract_run::Event;
 use clock_gate::ClockStatus;
 use interval_now::Answer;
-use step_core::Event;
 
 /// Publications, answers, answers with an interval, and these by their status.
 #[derive(Clone, Copy, Debug, PartialEq, Eq)]

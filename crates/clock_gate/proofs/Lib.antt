@@ -1,4 +1,2 @@
 pub mod Acts
-pub mod TriedRun
-pub mod Tries
 pub mod Traces

@@ -5,6 +5,4 @@ pub mod Memory
 pub mod Outside
 pub mod Stamp
 pub mod StampFields
-pub mod TriedRun
 pub mod Trace
-pub mod Tries

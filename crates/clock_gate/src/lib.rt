@@ -5,8 +5,7 @@
 //! only where its count of faults rose in that call, and the bytes come and go in order. `MemSource` and
 //! `MemSink` tell what they hold and fail where they are told to; `StdSource` and `StdSink` stand over std's
 //! reader and writer and tell nothing of their content. A `Trace` is what one run is given, an `Act` what a step machine
-//! wants to do next, and `specs/Tries.antt` says what a machine comes to that reads words under a number in so many
-//! tries (`seqlock_laws`). A `Gate` is where a test can hold a worker. Stands on `generation_word`, for the layout of a trace.
+//! wants to do next. A `Gate` is where a test can hold a worker. Stands on `generation_word`, for the layout of a trace.
 #![tactic(auto)]
 
 mod act;
@@ -19,7 +18,6 @@ mod list;
 mod mem_sink;
 mod mem_source;
 mod outside;
-mod seqlock;
 mod stamp;
 mod std_sink;
 mod std_source;
@@ -39,7 +37,6 @@ pub use list::List;
 pub use mem_sink::MemSink;
 pub use mem_source::MemSource;
 pub use outside::{Failed, Memory, Sink, Source};
-pub use seqlock::seqlock_laws;
 pub use stamp::{NANOS_PER_SECOND, Stamp};
 pub use std_sink::StdSink;
 pub use std_source::StdSource;

@@ -1,14 +1,21 @@
 -- Each answer of a run of the day makes a claim of the day.
 use Rattle.std.proofs.Common.{◌≡◌, ◌∙◌, ℕ, ◌^◌, ◌<◌, ◌≤◌, Bool, true, false, List, [], ◌∷◌, take, Option, Some, None, Ok, refl, ap, sym, subst, arith}
 use Rattle.std.specs.Prelude.{reverse, slice_index, if◌then◌else◌}
+use Rattle.generation_word.specs.declared.layout.Layout.TheVariants.{Two}
 use Rattle.clock_gate.specs.declared.trace.Trace.{Trace}
-use Rattle.day_promises.specs.Kept.{IsOfDay}
-use Rattle.day_promises.proofs.Kept.{day_keeps}
+use Rattle.segment_layout.specs.declared.start.Start.TheVariants.{Fresh}
+use Rattle.segment_layout.specs.Image.{image_of}
 use Rattle.drill_day.specs.Day.{day_of, no_image, schedule_of}
 use Rattle.drill_day.proofs.Lawful.{clock_length, day_image, day_lawful, day_rows, polls_length, start_is_page}
-use Rattle.generation_word.specs.declared.layout.Layout.TheVariants.{Two}
 use Rattle.interval_now.specs.declared.answers.Answer.TheVariants as answers
 use Rattle.interval_now.specs.declared.answers.Timed.{Timed}
+use Rattle.abstract_run.specs.declared.event.Event.{Event}
+use Rattle.abstract_run.specs.declared.event.Event.TheVariants.{Opened, Moved, Published, Skipped, Stopped, Answered}
+use Rattle.abstract_run.specs.declared.event.Trail.{Trail}
+use Rattle.abstract_run.specs.RunFacts.{AllBased, AllTell, EndedAs, told_at}
+use Rattle.abstract_run.specs.RunWhole.{run_of}
+use Rattle.abstract_run.specs.Given.{CanRun}
+use Rattle.abstract_run.proofs.RunFactsLaws.{BaseStands, base_stands}
 use Rattle.promise_judge.specs.Telling.{FitsRows}
 use Rattle.promise_judge.specs.declared.fault.Fault.{Fault}
 use Rattle.promise_judge.proofs.Places.{clocks_are, loaded_within, numbered_one}
@@ -18,15 +25,8 @@ use Rattle.run_promises.specs.declared.premises.Premises.{Premises}
 use Rattle.run_promises.specs.declared.premises.Premises.TheVariants.{Held}
 use Rattle.run_promises.proofs.AnyRun.{any_marks, any_tells, whole_run_is_run}
 use Rattle.run_promises.proofs.KeptAnswers.{Tells, fits_judge, fresh_polls}
-use Rattle.segment_layout.specs.declared.start.Start.TheVariants.{Fresh}
-use Rattle.segment_layout.specs.Image.{image_of}
-use Rattle.step_core.specs.declared.event.Event.{Event}
-use Rattle.step_core.specs.declared.event.Event.TheVariants.{Opened, Moved, Published, Skipped, Stopped, Answered}
-use Rattle.step_core.specs.declared.event.Trail.{Trail}
-use Rattle.step_core.specs.RunFacts.{AllBased, AllTell, EndedAs, told_at}
-use Rattle.step_core.specs.RunWhole.{run_of}
-use Rattle.step_core.specs.SharedReady.{CanRun}
-use Rattle.step_core.proofs.RunFactsLaws.{BaseStands, base_stands}
+use Rattle.day_promises.specs.Kept.{IsOfDay}
+use Rattle.day_promises.proofs.Kept.{day_keeps}
 use Rattle.day_runs.specs.DayRuns.{AnswersAreOfDay, DayRunsHold, WholeDaysHold}
 use Rattle.day_runs.proofs.Replies.{base_reaches}
 

@@ -1,27 +1,27 @@
 -- What a poll of the day gives as a base has a bound of at least 244,141 ns.
 use Rattle.std.proofs.Common.{◌≡◌, ◌∙◌, ◌⊎◌, ℕ, zero, suc, ◌+◌, ◌-◌, ◌*◌, ◌/◌, ◌%◌, ◌^◌, ◌<◌, ◌≤◌, Bool, true, false, List, [], ◌∷◌, Option, Some, None, Ok, refl, ap, sym, subst, arith, inl, inr, slice_index_or}
 use Rattle.std.specs.Prelude.{nat_le, pos, unsigned_abs, if◌then◌else◌}
-use Rattle.bound_rule.specs.GoodPoll.{bound_of_reply, good_from}
+use Rattle.chrony_fraction.specs.ClockError.{Covers, ceil_nanos, clock_error_bound}
+use Rattle.chrony_fraction.specs.declared.clock_error.TheConstants.{LARGEST_BOUND}
+use Rattle.clock_gate.specs.declared.trace.PollRow.{PollRow}
+use Rattle.clock_gate.specs.ClockRow.{reading_at}
 use Rattle.candm_codec.specs.Reply.{reply_of as read_of}
 use Rattle.candm_codec.specs.Text.{reply_text}
 use Rattle.candm_codec.specs.declared.tracking.Tracking.{Tracking}
 use Rattle.candm_codec.proofs.ReplyLaws.{Fits, reply_of-stands, reply_text-stands}
-use Rattle.chrony_fraction.specs.ClockError.{Covers, ceil_nanos, clock_error_bound}
-use Rattle.chrony_fraction.specs.declared.clock_error.TheConstants.{LARGEST_BOUND}
-use Rattle.clock_gate.specs.declared.trace.PollRow.{PollRow}
-use Rattle.day_promises.specs.Kept.{least_bound, units_of}
-use Rattle.day_promises.proofs.Kept.{replies_bound}
+use Rattle.segment_layout.specs.declared.publication.Publication.{Publication}
 use Rattle.drill_day.specs.Day.{day_of, polls_of}
 use Rattle.drill_day.specs.Draws.{after_two, rounds, second_draw_of}
 use Rattle.drill_day.specs.Seconds.{poll_in, reply_of, stop_second, tracking}
-use Rattle.segment_layout.specs.declared.publication.Publication.{Publication}
+use Rattle.bound_rule.specs.GoodPoll.{bound_of_reply, good_from}
 use Rattle.status_machine.specs.declared.base.Base.{Base}
 use Rattle.status_machine.specs.declared.heard.Heard.TheVariants.{Reply}
 use Rattle.status_machine.specs.declared.poll.Poll.{Poll}
 use Rattle.status_machine.specs.Poll.{base_of_good, base_of_heard, base_of_poll, heard_by, heard_of}
-use Rattle.clock_gate.specs.ClockRow.{reading_at}
-use Rattle.step_core.specs.RunDaemon.{no_poll}
-use Rattle.step_core.specs.RunFacts.{given_by}
+use Rattle.abstract_run.specs.RunDaemon.{no_poll}
+use Rattle.abstract_run.specs.RunFacts.{given_by}
+use Rattle.day_promises.specs.Kept.{least_bound, units_of}
+use Rattle.day_promises.proofs.Kept.{replies_bound}
 
 -- ---- a reply is read as what it tells
 

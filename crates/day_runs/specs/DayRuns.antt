@@ -1,12 +1,12 @@
 -- Every run of a generated day keeps its promises.
 use Rattle.std.specs.Prelude.{◌≡◌, ℕ, ◌≤◌, List, reverse}
-use Rattle.day_promises.specs.Kept.{IsOfDay}
 use Rattle.drill_day.specs.Day.{day_of}
+use Rattle.abstract_run.specs.RunWhole.{run_of}
+use Rattle.abstract_run.specs.declared.event.Event.{Event}
 use Rattle.run_promises.specs.Judged.{EachTrusted, claim_of, premises_of}
 use Rattle.run_promises.specs.Runs.{IsRunOf}
 use Rattle.run_promises.specs.declared.premises.Premises.TheVariants.{Held}
-use Rattle.step_core.specs.RunWhole.{run_of}
-use Rattle.step_core.specs.declared.event.Event.{Event}
+use Rattle.day_promises.specs.Kept.{IsOfDay}
 
 -- the claim of each answer that is looked at is one of the day
 abbrev pub AnswersAreOfDay : Type 0

@@ -14,3 +14,7 @@ abbrev pub header_of : ℕ → ℕ × ℕ × ℕ
 header_of word =
     if word % 2 ^ 32 == LOW_HALF_THREE then (80, 3, word / 2 ^ 32)
     else (word % 2 ^ 32, word / 2 ^ 32 % 2 ^ 16, word / 2 ^ 48)
+
+-- the generation that a header tells
+abbrev pub generation_in : ℕ → ℕ
+generation_in word = (header_of word).2

@@ -6,9 +6,9 @@ use Rattle.clock_gate.specs.declared.clock_row.ClockRow.{ClockRow}
 use Rattle.clock_gate.specs.declared.clock_row.Reading.{Reading}
 use Rattle.clock_gate.specs.Acts.{Touch}
 use Rattle.clock_gate.specs.ClockRow.{reading_at}
-use Rattle.clock_gate.specs.Tries.{Found}
-use Rattle.segment_layout.specs.Record.{RecordFields}
+use Rattle.seqlock.specs.Tries.{Found}
 use Rattle.vmclock_page.specs.Words.{count_in_word}
+use Rattle.segment_layout.specs.Record.{RecordFields}
 use Rattle.interval_now.specs.declared.answers.Interval.{Interval}
 use Rattle.interval_now.specs.declared.answers.Answer.TheVariants as answers
 use Rattle.interval_now.specs.declared.answers.Timed.{Timed}

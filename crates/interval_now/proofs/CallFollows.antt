@@ -6,14 +6,14 @@ use Rattle.clock_gate.specs.declared.clock_row.ClockRow.{ClockRow}
 use Rattle.clock_gate.specs.declared.clock_row.Reading.{Reading}
 use Rattle.clock_gate.specs.Acts.{after, WereAsked}
 use Rattle.clock_gate.specs.ClockRow.{reading_at}
-use Rattle.clock_gate.specs.Tries.{SeqlockRead, Outcome, Unpublished, AllFailed, Found, started, read_end}
-use Rattle.clock_gate.specs.Tries as tries
-use Rattle.clock_gate.proofs.Tries as laws
+use Rattle.seqlock.specs.Tries.{SeqlockRead, Outcome, Unpublished, AllFailed, Found, started, read_end}
+use Rattle.seqlock.specs.Tries as tries
+use Rattle.seqlock.proofs.Tries as laws
+use Rattle.vmclock_page.specs.PageRead.{page_lock}
+use Rattle.vmclock_page.specs.PageRead as page
 use Rattle.segment_layout.specs.Record.{RecordFields}
 use Rattle.shm_reader.specs.SegmentTries.{segment_lock}
 use Rattle.shm_reader.specs.SegmentTries as segment
-use Rattle.vmclock_page.specs.PageRead.{page_lock}
-use Rattle.vmclock_page.specs.PageRead as page
 use Rattle.interval_now.specs.declared.answers.Answer.TheVariants as answers
 use Rattle.interval_now.specs.declared.stage.Stage.{Stage}
 use Rattle.interval_now.specs.declared.stage.Stage.TheVariants.{Segment, Clock, Page, Done}

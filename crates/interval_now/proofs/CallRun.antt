@@ -6,22 +6,22 @@ use Rattle.clock_gate.specs.declared.clock_row.ClockRow.{ClockRow}
 use Rattle.clock_gate.specs.declared.clock_row.Reading.{Reading}
 use Rattle.clock_gate.specs.Acts.{Touch, act_of_touch, Wanted, replayed}
 use Rattle.clock_gate.specs.ClockRow.{reading_at}
-use Rattle.clock_gate.specs.Tries.{SeqlockRead, Outcome, Unpublished, AllFailed, Found, Progress, started, progress, read_end}
-use Rattle.clock_gate.specs.Tries.{end_of as end_of_progress}
-use Rattle.clock_gate.proofs.Tries as laws
-use Rattle.shm_reader.specs.SegmentTries.{segment_lock}
-use Rattle.interval_now.specs.declared.answers.Answer.TheVariants as answers
-use Rattle.clock_gate.specs.TriedRun.{load, CameTo}
 use Rattle.clock_gate.proofs.Acts.{replayed-append, wanted-append}
-use Rattle.clock_gate.proofs.TriedRun.{did, did_so, load_is, touch_acts}
+use Rattle.seqlock.specs.Tries.{SeqlockRead, Outcome, Unpublished, AllFailed, Found, Progress, started, progress, read_end}
+use Rattle.seqlock.specs.Tries.{end_of as end_of_progress}
+use Rattle.seqlock.proofs.Tries as laws
+use Rattle.seqlock.specs.TriedRun.{load, CameTo}
+use Rattle.seqlock.proofs.TriedRun.{did, did_so, load_is, touch_acts}
+use Rattle.vmclock_page.specs.PageRead.{page_lock}
+use Rattle.vmclock_page.specs.PageRead as page
 use Rattle.segment_layout.specs.Record.{RecordFields}
+use Rattle.shm_reader.specs.SegmentTries.{segment_lock}
 use Rattle.shm_reader.specs.declared.seen.Seen.{Seen}
 use Rattle.shm_reader.specs.declared.seen.Seen.TheVariants as seen
 use Rattle.shm_reader.specs.SegmentRun.{ReadsRecord, Saw, EndsWith}
 use Rattle.shm_reader.specs.SegmentTries as segment
 use Rattle.shm_reader.proofs.SegmentRun.{saw, saw_so}
-use Rattle.vmclock_page.specs.PageRead.{page_lock}
-use Rattle.vmclock_page.specs.PageRead as page
+use Rattle.interval_now.specs.declared.answers.Answer.TheVariants as answers
 use Rattle.interval_now.specs.declared.answers.Answer.{Answer}
 use Rattle.interval_now.specs.declared.stage.Stage.{Stage}
 use Rattle.interval_now.specs.declared.stage.Stage.TheVariants.{Segment, Clock, Page, Done}

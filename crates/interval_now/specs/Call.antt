@@ -7,15 +7,15 @@ use Rattle.clock_gate.specs.declared.clock_row.ClockRow.{ClockRow}
 use Rattle.clock_gate.specs.declared.clock_row.Reading.{Reading}
 use Rattle.clock_gate.specs.declared.limits.TheConstants.{LAST_MOMENT, MOST_TRIES}
 use Rattle.clock_gate.specs.ClockRow.{reading_at}
-use Rattle.clock_gate.specs.Tries.{SeqlockRead, started}
-use Rattle.clock_gate.specs.Tries as tries
+use Rattle.seqlock.specs.Tries.{SeqlockRead, started}
+use Rattle.seqlock.specs.Tries as tries
+use Rattle.vmclock_page.specs.declared.page_seen.PageSeen.{PageSeen}
+use Rattle.vmclock_page.specs.declared.page_seen.PageSeen.TheVariants as page_seen
+use Rattle.vmclock_page.specs.PageRead as page
 use Rattle.segment_layout.specs.Record.{RecordFields}
 use Rattle.shm_reader.specs.declared.seen.Seen.{Seen}
 use Rattle.shm_reader.specs.declared.seen.Seen.TheVariants as seen
 use Rattle.shm_reader.specs.SegmentTries as segment
-use Rattle.vmclock_page.specs.declared.page_seen.PageSeen.{PageSeen}
-use Rattle.vmclock_page.specs.declared.page_seen.PageSeen.TheVariants as page_seen
-use Rattle.vmclock_page.specs.PageRead as page
 use Rattle.interval_now.specs.declared.answers.Interval.{Interval}
 use Rattle.interval_now.specs.declared.answers.Causality.{Causality}
 use Rattle.interval_now.specs.declared.answers.Answer.{Answer}

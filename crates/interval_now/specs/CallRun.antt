@@ -4,14 +4,14 @@ use Rattle.clock_gate.specs.declared.clock_row.ClockRow.{ClockRow}
 use Rattle.clock_gate.specs.declared.clock_row.Reading.{Reading}
 use Rattle.clock_gate.specs.Acts.{Touch, Wanted, replayed}
 use Rattle.clock_gate.specs.ClockRow.{reading_at, row_at}
-use Rattle.clock_gate.specs.Tries.{Outcome, Unpublished, AllFailed, Found}
-use Rattle.clock_gate.specs.TriedRun.{load, Did, FindsWords}
+use Rattle.seqlock.specs.Tries.{Outcome, Unpublished, AllFailed, Found}
+use Rattle.seqlock.specs.TriedRun.{load, Did, FindsWords}
+use Rattle.vmclock_page.specs.PageRead.{page_lock}
+use Rattle.vmclock_page.specs.Words.{count_in_word}
 use Rattle.segment_layout.specs.Record.{RecordFields}
 use Rattle.shm_reader.specs.declared.seen.Seen.{Seen}
 use Rattle.shm_reader.specs.declared.seen.Seen.TheVariants as seen
 use Rattle.shm_reader.specs.SegmentRun.{ReadsRecord, Saw}
-use Rattle.vmclock_page.specs.PageRead.{page_lock}
-use Rattle.vmclock_page.specs.Words.{count_in_word}
 use Rattle.interval_now.specs.declared.answers.Answer.{Answer}
 use Rattle.interval_now.specs.declared.answers.Answer.TheVariants as answers
 use Rattle.interval_now.specs.declared.answers.Timed.{Timed}

@@ -1,17 +1,18 @@
 -- What a client call comes to, by all the values that it was given: first those of the tries to read the segment, then a
 -- row of the clock, then, where there is a page, those of the tries to read it. This project's own.
 use Rattle.std.specs.Prelude.{◌≡◌, ℕ, ◌+◌, ◌*◌, ◌≤◌, Bool, if◌then◌else◌, List, [], ◌∷◌, slice_index, Option, Some, None, length}
+use Rattle.generation_word.specs.Header.{generation_in}
 use Rattle.clock_gate.specs.declared.act.Act.{Act}
 use Rattle.clock_gate.specs.declared.act.Act.TheVariants.{Load, End}
 use Rattle.clock_gate.specs.declared.clock_row.ClockRow.{ClockRow}
 use Rattle.clock_gate.specs.declared.clock_row.Reading.{Reading}
 use Rattle.clock_gate.specs.Acts.{after}
 use Rattle.clock_gate.specs.ClockRow.{reading_at}
-use Rattle.clock_gate.specs.Tries.{Outcome, Unpublished, AllFailed, Found, tries_of}
-use Rattle.segment_layout.specs.Record.{RecordFields}
-use Rattle.shm_reader.specs.SegmentTries.{segment_lock, generation_in, record_in}
+use Rattle.seqlock.specs.Tries.{Outcome, Unpublished, AllFailed, Found, tries_of}
 use Rattle.vmclock_page.specs.PageRead.{page_lock}
 use Rattle.vmclock_page.specs.Words.{count_in_word}
+use Rattle.segment_layout.specs.Record.{RecordFields}
+use Rattle.shm_reader.specs.SegmentTries.{segment_lock, record_in}
 use Rattle.interval_now.specs.declared.answers.Answer.{Answer}
 use Rattle.interval_now.specs.declared.answers.Answer.TheVariants as answers
 use Rattle.interval_now.specs.Call.{started_call, answer_of, act_of, given, end_of}

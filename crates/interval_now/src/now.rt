@@ -3,7 +3,7 @@ ghost use Rattle.std.specs.Prelude.{◌≡◌, ◌≢◌, ◌≤◌, ◌<◌, �
 ghost use Rattle.clock_gate.specs.declared.limits.TheConstants.{LAST_MOMENT, MOST_TRIES, MOST_HOST_ROWS};
 ghost use Rattle.clock_gate.specs.Acts.{IsLoadWithin};
 ghost use Rattle.clock_gate.specs.ClockRow.{IsClock};
-ghost use Rattle.clock_gate.specs.Tries.{SeqlockRead};
+ghost use Rattle.seqlock.specs.Tries.{SeqlockRead};
 ghost use Rattle.shm_reader.specs.SegmentTries.{IsGoodLoad};
 ghost use Rattle.shm_reader.specs.SegmentTries as segment;
 ghost use Rattle.vmclock_page.specs.PageRead as page;

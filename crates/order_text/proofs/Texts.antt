@@ -4,7 +4,7 @@ use Rattle.std.specs.List.{cons_option}
 use Rattle.std.proofs.lemmas.List.{drop_all, drop_more, take_more}
 use Rattle.std.proofs.lemmas.List.Elements.{filter_map-append}
 use Rattle.clock_gate.specs.declared.clock_row.ClockRow.{ClockRow}
-use Rattle.step_core.specs.declared.event.Event.{Event}
+use Rattle.abstract_run.specs.declared.event.Event.{Event}
 use Rattle.bound_order.specs.declared.step.Step.{Step}
 use Rattle.bound_order.specs.declared.told.Told.{Told}
 use Rattle.bound_order.specs.Ordering.{order_of, steps_after}

@@ -4,8 +4,8 @@ use Rattle.clock_gate.specs.declared.clock_row.ClockRow.{ClockRow}
 use Rattle.clock_gate.specs.ClockRow.{row_at}
 use Rattle.interval_now.specs.declared.answers.Answer.{Answer}
 use Rattle.interval_now.specs.declared.answers.Answer.TheVariants as answers
-use Rattle.step_core.specs.declared.event.Event.{Event}
-use Rattle.step_core.specs.declared.event.Event.TheVariants as events
+use Rattle.abstract_run.specs.declared.event.Event.{Event}
+use Rattle.abstract_run.specs.declared.event.Event.TheVariants as events
 use Rattle.bound_order.specs.declared.told.Told.{Told}
 
 -- an answer without an interval

@@ -2,7 +2,7 @@
 //!
 //! `answers_told` takes the answers out of a run's events, each with its interval and the true time of the clock row that it read,
 //! and `put_order` appends a line or two for each of them, by the steps of `bound_order`, and their counts
-//! (`specs/Told.antt`, `specs/Lines.antt`). Stands on `step_core` for the events and on `bound_order` for the steps.
+//! (`specs/Told.antt`, `specs/Lines.antt`). Stands on `abstract_run` for the events and on `bound_order` for the steps.
 #![tactic(auto)]
 
 mod counts;

@@ -3,11 +3,11 @@ ghost use Rattle.std.specs.Prelude.{◌≡◌, ◌++◌, option_to_list, IfOk, O
 ghost use Rattle.clock_gate.specs.ClockRow.{row_at};
 ghost use Rattle.order_text.specs.Told.{answer_told, answers_told, event_told, untimed};
 
+use abstract_run::Event;
 use bound_order::Told;
 use clock_gate::ClockRow;
 use interval_now::Answer;
 use std::alloc::{AllocError, Global};
-use step_core::Event;
 
 // The true time that the clock row with this number tells.
 fn truth_at(clock: &[ClockRow], row: u32) -> Option<u64>

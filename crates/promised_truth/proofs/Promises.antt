@@ -3,14 +3,14 @@ use Rattle.std.proofs.Common.{◌≡◌, ℕ, ◌<◌, ◌≤◌, List, Option, 
 use Rattle.std.proofs.Math.Path.{fun_ext}
 use Rattle.clock_gate.specs.declared.trace.Trace.{Trace}
 use Rattle.interval_now.specs.declared.answers.Timed.{Timed}
+use Rattle.abstract_run.specs.declared.event.Event.{Event}
+use Rattle.abstract_run.specs.declared.event.Trail.{Trail}
+use Rattle.abstract_run.specs.RunFacts.{EndedAs}
+use Rattle.abstract_run.specs.RunHost.{clocks_at}
+use Rattle.abstract_run.specs.Given.{CanRun}
 use Rattle.promise_judge.specs.Containment as judge
 use Rattle.kept_promises.specs.Kept.{ArePromisesKept}
 use Rattle.kept_promises.specs.Rows.{Disrupts, ChangesMarker, HasMark, IsNewMarker}
-use Rattle.step_core.specs.declared.event.Event.{Event}
-use Rattle.step_core.specs.declared.event.Trail.{Trail}
-use Rattle.step_core.specs.RunFacts.{EndedAs}
-use Rattle.step_core.specs.RunHost.{clocks_at}
-use Rattle.step_core.specs.SharedReady.{CanRun}
 use Rattle.run_promises.specs.Judged.{poll_claim}
 use Rattle.run_promises.specs.Told.{marker_at}
 use Rattle.run_promises.proofs.PageMarkers.{judge_marker}

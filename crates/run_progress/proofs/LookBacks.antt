@@ -2,13 +2,13 @@
 use Rattle.std.proofs.Common.{◌≡◌, ◌≢◌, ℕ, zero, suc, ◌+◌, ◌<◌, Bool, true, false, List, [], ◌∷◌, ◌++◌, refl, ap, ◌∙◌, arith, inl, inr}
 use Rattle.std.specs.Prelude.{nat_lt, ◌⊎◌, ◌&&◌, ◌||◌, Contains}
 use Rattle.std.proofs.lemmas.Bool.Decides.{nat_tests}
-use Rattle.clock_gate.specs.declared.trace.Trace.{Trace}
 use Rattle.generation_word.specs.Layout.{period_of}
 use Rattle.generation_word.specs.Numbering.{generation_at}
+use Rattle.clock_gate.specs.declared.trace.Trace.{Trace}
 use Rattle.segment_layout.specs.declared.start.Start.{Start}
 use Rattle.segment_layout.specs.declared.start.Start.TheVariants.{Fresh, Kept, Torn}
-use Rattle.step_core.specs.declared.event.Event.{Event}
-use Rattle.step_core.specs.declared.event.Event.TheVariants.{Opened, Moved, Published, Skipped, Stopped, Answered}
+use Rattle.abstract_run.specs.declared.event.Event.{Event}
+use Rattle.abstract_run.specs.declared.event.Event.TheVariants.{Opened, Moved, Published, Skipped, Stopped, Answered}
 use Rattle.run_progress.specs.Progress.{positions_made, position_after, Lives, LivesAt, IsLeftOpen, IsFoundAfter}
 use Rattle.run_progress.proofs.First.{is_torn_first, torn_from, torn_by}
 

@@ -7,10 +7,10 @@ use Rattle.std.proofs.lemmas.List.{reverse-append, reverse-reverse}
 use Rattle.clock_gate.specs.declared.trace.Trace.{Trace}
 use Rattle.segment_layout.specs.declared.publication.Publication.{Publication}
 use Rattle.interval_now.specs.declared.answers.Answer.{Answer}
-use Rattle.step_core.specs.declared.event.Event.{Event}
-use Rattle.step_core.specs.declared.event.Event.TheVariants.{Opened, Moved, Published, Skipped, Stopped, Answered}
-use Rattle.step_core.specs.declared.event.Trail.{Trail}
-use Rattle.step_core.specs.RunFacts.{EndedAs, HasPublication, told_at, told_by, is_moved_to, AllEarlier, AllTell, PublishedTells, TrailTells}
+use Rattle.abstract_run.specs.declared.event.Event.{Event}
+use Rattle.abstract_run.specs.declared.event.Event.TheVariants.{Opened, Moved, Published, Skipped, Stopped, Answered}
+use Rattle.abstract_run.specs.declared.event.Trail.{Trail}
+use Rattle.abstract_run.specs.RunFacts.{EndedAs, HasPublication, told_at, told_by, is_moved_to, AllEarlier, AllTell, PublishedTells, TrailTells}
 
 -- ---- lists told by a place in them
 

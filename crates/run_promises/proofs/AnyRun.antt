@@ -3,11 +3,11 @@ use Rattle.std.proofs.Common.{◌≡◌, List, [], ◌∷◌, ◌++◌, refl, ap
 use Rattle.std.specs.Prelude.{reverse}
 use Rattle.clock_gate.specs.declared.trace.Party.{Party}
 use Rattle.clock_gate.specs.declared.trace.Trace.{Trace}
-use Rattle.step_core.specs.declared.event.Event.{Event}
-use Rattle.step_core.specs.Run.{Run, turn, turns_by, start}
-use Rattle.step_core.specs.RunFacts.{AllTell, AllBased}
-use Rattle.step_core.specs.RunWhole.{run_of}
-use Rattle.step_core.proofs.RunKeeps.{run_keeps}
+use Rattle.abstract_run.specs.declared.event.Event.{Event}
+use Rattle.abstract_run.specs.Run.{Run, turn, turns_by, start}
+use Rattle.abstract_run.specs.RunFacts.{AllTell, AllBased}
+use Rattle.abstract_run.specs.RunWhole.{run_of}
+use Rattle.abstract_run.proofs.RunKeeps.{run_keeps}
 use Rattle.run_promises.specs.Told.{AllMarked}
 use Rattle.run_promises.specs.Runs.{WholeRunIsRun, RunsTellSegment, AnyRunTells, AnyRunMarks}
 use Rattle.run_promises.proofs.Segments.{told_stands}

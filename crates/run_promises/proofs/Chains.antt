@@ -3,9 +3,9 @@ use Rattle.std.proofs.Common.{◌≡◌, ℕ, ◌<◌, Bool, true, false, List, 
 use Rattle.std.specs.Prelude.{◌==◌, if◌then◌else◌}
 use Rattle.clock_gate.specs.declared.trace.Trace.{Trace}
 use Rattle.segment_layout.specs.declared.publication.Publication.{Publication}
-use Rattle.step_core.specs.declared.event.Event.{Event}
-use Rattle.step_core.specs.declared.event.Event.TheVariants.{Opened, Moved, Published, Skipped, Stopped, Answered}
-use Rattle.step_core.specs.RunFacts.{EndedAs, told_at, told_by, AllEarlier, AllTell}
+use Rattle.abstract_run.specs.declared.event.Event.{Event}
+use Rattle.abstract_run.specs.declared.event.Event.TheVariants.{Opened, Moved, Published, Skipped, Stopped, Answered}
+use Rattle.abstract_run.specs.RunFacts.{EndedAs, told_at, told_by, AllEarlier, AllTell}
 use Rattle.run_promises.specs.Told.{marker_at, IsMarked, KeepsMarker, PublicationTells, AllMarked, IsFresh, KnowsPoll}
 use Rattle.run_promises.proofs.Marks.{mark_later}
 use Rattle.run_promises.proofs.DaemonStates.{AreSame, mark_same}

@@ -1,31 +1,31 @@
 -- What a call in hand has read stays as the run goes on, and its answer's interval is by the publication that made its position.
 use Rattle.std.proofs.Common.{◌≡◌, ℕ, zero, suc, ◌+◌, ◌<◌, ◌≤◌, true, false, List, [], ◌∷◌, length, Option, Some, None, is_some, Result, Ok, Err, refl, ap, sym, ◌∙◌, subst, arith, length-append}
 use Rattle.std.specs.Prelude.{slice_get, slice_set, map}
-use Rattle.clock_gate.specs.declared.trace.Trace.{Trace}
 use Rattle.generation_word.specs.declared.layout.Layout.{Layout}
 use Rattle.generation_word.specs.Layout.{period_of}
 use Rattle.generation_word.specs.Numbering.{generation_at}
+use Rattle.clock_gate.specs.declared.trace.Trace.{Trace}
+use Rattle.clock_gate.specs.ClockRow.{row_at}
+use Rattle.vmclock_page.specs.Host.{count_of}
 use Rattle.segment_layout.specs.declared.publication.Publication.{Publication}
+use Rattle.segment_layout.specs.Record.{RecordFields}
+use Rattle.segment_run.specs.SegmentRun.{SegmentRun, published_at}
 use Rattle.interval_now.specs.declared.answers.Interval.{Interval}
 use Rattle.interval_now.specs.declared.answers.Causality.{Causality}
 use Rattle.interval_now.specs.declared.answers.Answer.{Answer}
 use Rattle.interval_now.specs.declared.answers.Answer.TheVariants as answers
 use Rattle.interval_now.specs.declared.answers.Timed.{Timed}
 use Rattle.interval_now.specs.Interval.{interval_of}
-use Rattle.vmclock_page.specs.Host.{count_of}
-use Rattle.clock_gate.specs.ClockRow.{row_at}
-use Rattle.step_core.specs.declared.event.Event.{Event}
-use Rattle.step_core.specs.declared.event.Trail.{Trail}
-use Rattle.step_core.specs.Run.{client_start}
-use Rattle.step_core.specs.RunHost.{HostRun, clocks_at, pages_at, page_shown, marker_of, sequence_of}
-use Rattle.step_core.specs.RunPage.{PageTry, PageAfter, Looks, Saw, Missed, page_load, is_marker_next}
-use Rattle.step_core.specs.RunSegment.{SegmentRun, published_at}
-use Rattle.step_core.specs.RunDaemon.{marked_by}
-use Rattle.step_core.specs.RunClient as run_client
-use Rattle.step_core.specs.RunClient.{SegmentAfter, Reads, IsWhole, Unpublished, AllFailed, segment_load, segment_reading, WholeRead, Clocked, CallStage, Reading, Clocking, Paging, Answered, CallAfter, Goes, Answers, CallRun, ClientRun, ClientTurn}
-use Rattle.segment_layout.specs.Record.{RecordFields}
-use Rattle.step_core.proofs.AnswerOf.{IsTimeOf, IsAnswer, IsReadOf, StandsIn, PageFits, FitsIn, LeavesOf, step_of}
-use Rattle.step_core.proofs.RunFactsClient.{CallFits, StageFits}
+use Rattle.abstract_run.specs.declared.event.Event.{Event}
+use Rattle.abstract_run.specs.declared.event.Trail.{Trail}
+use Rattle.abstract_run.specs.Run.{client_start}
+use Rattle.abstract_run.specs.RunHost.{HostRun, clocks_at, pages_at, page_shown, marker_of, sequence_of}
+use Rattle.abstract_run.specs.RunPage.{PageTry, PageAfter, Looks, Saw, Missed, page_load, is_marker_next}
+use Rattle.abstract_run.specs.RunDaemon.{marked_by}
+use Rattle.abstract_run.specs.RunClient as run_client
+use Rattle.abstract_run.specs.RunClient.{SegmentAfter, Reads, IsWhole, Unpublished, AllFailed, segment_load, segment_reading, WholeRead, Clocked, CallStage, Reading, Clocking, Paging, Answered, CallAfter, Goes, Answers, CallRun, ClientRun, ClientTurn}
+use Rattle.abstract_run.proofs.AnswerOf.{IsTimeOf, IsAnswer, IsReadOf, StandsIn, PageFits, FitsIn, LeavesOf, step_of}
+use Rattle.abstract_run.proofs.RunFactsClient.{CallFits, StageFits}
 use Rattle.run_promises.specs.Told.{marker_at, AnswerTells, IsByPublication}
 use Rattle.run_promises.proofs.PageReads.{LookFits, LookAfter, look_later, look_fits}
 use Rattle.run_promises.proofs.Segments.{entry_at, IsEntry, AllStand, entry_more, told_stands}
@@ -177,7 +177,7 @@ module _ (trace : Trace) (host : HostRun) (segment : SegmentRun) (past : List Ev
   fits_in : (stage : CallStage) → StageFits trace segment.base segment.position host.done past stage → PagesIn trace host stage → FitsIn trace host segment stage
   fits_in (Reading reading) fits is = fits_try reading.try fits
     where
-      fits_try : (try : Option run_client.SegmentTry) → Rattle.step_core.proofs.RunFactsClient.TryFits segment.base segment.position try → Rattle.step_core.proofs.AnswerOf.TryFits segment try
+      fits_try : (try : Option run_client.SegmentTry) → Rattle.abstract_run.proofs.RunFactsClient.TryFits segment.base segment.position try → Rattle.abstract_run.proofs.AnswerOf.TryFits segment try
       fits_try None fits = tt
       fits_try (Some try) fits = fits
   fits_in (Clocking read) fits is = tt

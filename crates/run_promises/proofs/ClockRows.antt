@@ -1,15 +1,15 @@
 -- Clock rows by the host positions at which they were loaded: a later one has no earlier reading.
-use Rattle.promise_judge.proofs.Places.{clocks, loaded_within, numbered_one}
-use Rattle.promise_judge.specs.Positions.{position_of}
-use Rattle.clock_gate.specs.declared.trace.Trace.{Trace}
 use Rattle.std.proofs.Common.{◌≡◌, ℕ, zero, suc, ◌-◌, ◌≤◌, ◌<◌, List, [], ◌∷◌, length, arith, take, refl}
 use Rattle.std.specs.Prelude.{slice_index_or}
+use Rattle.clock_gate.specs.declared.trace.Trace.{Trace}
 use Rattle.clock_gate.specs.declared.clock_row.ClockRow.{ClockRow}
 use Rattle.clock_gate.specs.declared.trace.HostRow.{HostRow}
 use Rattle.clock_gate.specs.declared.trace.HostRow.TheVariants.{Clock, Page, Disrupt}
 use Rattle.clock_gate.specs.ClockRow.{no_row, row_at}
 use Rattle.clock_gate.specs.Trace.{NeverFalls, clock_numbers, IsHostOf}
-use Rattle.step_core.specs.RunHost.{clocks_at}
+use Rattle.abstract_run.specs.RunHost.{clocks_at}
+use Rattle.promise_judge.proofs.Places.{clocks, loaded_within, numbered_one}
+use Rattle.promise_judge.specs.Positions.{position_of}
 
 -- ---- more rows of the host have no fewer of the clock
 

@@ -1,8 +1,8 @@
 -- What the daemon and the segment have of markers and bases, and that it stays as other events come.
 use Rattle.std.proofs.Common.{◌≡◌, ℕ, ◌+◌, ◌<◌, ◌≤◌, Bool, true, false, List, ◌∷◌, ◌++◌, length, Option, Some, None, is_some, ap, sym, ◌∙◌}
 use Rattle.std.specs.Prelude.{◌==◌, if◌then◌else◌}
-use Rattle.clock_gate.specs.declared.trace.Trace.{Trace}
 use Rattle.generation_word.specs.declared.layout.Layout.{Layout}
+use Rattle.clock_gate.specs.declared.trace.Trace.{Trace}
 use Rattle.segment_layout.specs.declared.publication.Publication.{Publication}
 use Rattle.segment_layout.specs.declared.start.Start.{Start}
 use Rattle.segment_layout.specs.declared.start.Start.TheVariants.{Fresh, Kept, Torn}
@@ -10,12 +10,12 @@ use Rattle.segment_layout.specs.Record.{RecordFields}
 use Rattle.status_machine.specs.declared.base.Base.{Base}
 use Rattle.status_machine.specs.Incarnation.{base_at}
 use Rattle.status_machine.proofs.BaseMarker.{marker_before}
-use Rattle.step_core.specs.declared.event.Event.{Event}
-use Rattle.step_core.specs.declared.event.Event.TheVariants.{Published}
-use Rattle.step_core.specs.RunHost.{HostRun}
-use Rattle.step_core.specs.RunSegment.{SegmentRun}
-use Rattle.step_core.specs.RunDaemon.{Life, Work, Resting, Opening, Asking, Looking, Taking, Writing, DaemonRun}
-use Rattle.step_core.specs.RunFacts.{EndedAs, told_at, told_by}
+use Rattle.segment_run.specs.SegmentRun.{SegmentRun}
+use Rattle.abstract_run.specs.declared.event.Event.{Event}
+use Rattle.abstract_run.specs.declared.event.Event.TheVariants.{Published}
+use Rattle.abstract_run.specs.RunHost.{HostRun}
+use Rattle.abstract_run.specs.RunDaemon.{Life, Work, Resting, Opening, Asking, Looking, Taking, Writing, DaemonRun}
+use Rattle.abstract_run.specs.RunFacts.{EndedAs, told_at, told_by}
 use Rattle.run_promises.specs.Told.{marker_at, IsMarked, IsMarkOf, KeepsMarker, AllMarked, IsFresh, KnowsPoll}
 use Rattle.run_promises.proofs.Marks.{BaseMarked, LifeMarked, LifeKnown}
 use Rattle.run_promises.proofs.PageReads.{LookFits}

@@ -1,7 +1,4 @@
 -- Each turn of the daemon keeps what its events tell of markers, and that they stand at their positions.
-use Rattle.status_machine.specs.Poll.{base_of_poll, is_good}
-use Rattle.step_core.specs.RunWhole.{is_resting}
-use Rattle.run_promises.proofs.PollNumbers.{Numbered, IsBegun}
 use Rattle.std.proofs.Common.{◌≡◌, ◌≢◌, ℕ, ◌+◌, ◌<◌, Bool, true, false, List, [], ◌∷◌, ◌++◌, Option, Some, None, is_some, refl, ap, sym, ◌∙◌, subst, arith, inl, inr, length-append, append_assoc, append-nil, true≢false}
 use Rattle.std.specs.Prelude.{◌==◌, ◌&&◌, not, reverse, slice_get, if◌then◌else◌}
 use Rattle.std.proofs.lemmas.Bool.{cases_eq, cases_lt}
@@ -10,27 +7,30 @@ use Rattle.clock_gate.specs.declared.clock_status.ClockStatus.{ClockStatus}
 use Rattle.clock_gate.specs.declared.clock_status.ClockStatus.TheVariants.{Unknown, Synchronized, FreeRunning, Disrupted}
 use Rattle.clock_gate.specs.declared.trace.PollRow.{PollRow}
 use Rattle.clock_gate.specs.declared.trace.Trace.{Trace}
+use Rattle.vmclock_page.specs.Host.{count_of}
 use Rattle.segment_layout.specs.declared.publication.Publication.{Publication}
 use Rattle.segment_layout.specs.declared.start.Start.{Start}
 use Rattle.segment_layout.specs.declared.start.Start.TheVariants.{Fresh, Kept, Torn}
 use Rattle.segment_layout.specs.Record.{RecordFields}
+use Rattle.status_machine.specs.Poll.{base_of_poll, is_good}
 use Rattle.status_machine.specs.declared.base.Base.{Base}
 use Rattle.status_machine.specs.declared.poll.Poll.{Poll}
 use Rattle.status_machine.specs.Incarnation as incarnation
 use Rattle.status_machine.specs.Incarnation.{base_at, start_base, base_by_status, since_disrupted, is_unabsorbed, is_disrupted, status_by}
 use Rattle.status_machine.proofs.BaseMarker.{marker_before}
-use Rattle.vmclock_page.specs.Host.{count_of}
-use Rattle.step_core.specs.declared.event.Event.{Event}
-use Rattle.step_core.specs.declared.event.Event.TheVariants.{Opened, Moved, Published, Skipped, Stopped}
-use Rattle.step_core.specs.RunHost.{HostRun, clocks_at, pages_at, page_shown, marker_of}
-use Rattle.step_core.specs.RunPage.{PageAfter, Looks, Saw, Missed, page_load, is_marker_next}
-use Rattle.step_core.specs.RunSegment.{SegmentRun, opening_effect, opening_length, headed, opened_update, moved_once, stored, is_old, is_old_in, start_found, one_store_more, number_shown, published_at}
-use Rattle.step_core.specs.RunDaemon as run_daemon
-use Rattle.step_core.specs.RunDaemon.{Life, Asked, Storing, Work, Resting, Opening, Asking, Looking, Taking, Writing, DaemonRun, DaemonTurn, daemon_turn, marked_by, base_number}
-use Rattle.step_core.specs.RunFacts.{EndedAs, told_at, AllEarlier}
-use Rattle.step_core.specs.RunHost.{marker_by}
-use Rattle.step_core.proofs.RunFactsDaemon.{next_number, WorkFits, opening_some}
+use Rattle.segment_run.specs.SegmentRun.{SegmentRun, opening_effect, opening_length, headed, opened_update, moved_once, stored, is_old, is_old_in, start_found, one_store_more, number_shown, published_at}
+use Rattle.abstract_run.specs.RunWhole.{is_resting}
+use Rattle.abstract_run.specs.declared.event.Event.{Event}
+use Rattle.abstract_run.specs.declared.event.Event.TheVariants.{Opened, Moved, Published, Skipped, Stopped}
+use Rattle.abstract_run.specs.RunHost.{HostRun, clocks_at, pages_at, page_shown, marker_of}
+use Rattle.abstract_run.specs.RunPage.{PageAfter, Looks, Saw, Missed, page_load, is_marker_next}
+use Rattle.abstract_run.specs.RunDaemon as run_daemon
+use Rattle.abstract_run.specs.RunDaemon.{Life, Asked, Storing, Work, Resting, Opening, Asking, Looking, Taking, Writing, DaemonRun, DaemonTurn, daemon_turn, marked_by, base_number}
+use Rattle.abstract_run.specs.RunFacts.{EndedAs, told_at, AllEarlier}
+use Rattle.abstract_run.specs.RunHost.{marker_by}
+use Rattle.abstract_run.proofs.RunFactsDaemon.{next_number, WorkFits, opening_some}
 use Rattle.run_promises.specs.Told.{marker_at, IsMarkOf, KeepsMarker, AllMarked, IsFresh, KnowsPoll}
+use Rattle.run_promises.proofs.PollNumbers.{Numbered, IsBegun}
 use Rattle.run_promises.proofs.Marks.{BaseMarked, LifeMarked, poll_marked, BaseKnown, poll_known}
 use Rattle.run_promises.proofs.PageReads.{LookAfter, look_fits}
 use Rattle.run_promises.proofs.Segments.{entry_at, IsEntry, AllStand, entry_more, stand_more, newest}

@@ -8,11 +8,11 @@ use Rattle.clock_gate.specs.declared.clock_status.ClockStatus.{ClockStatus}
 use Rattle.clock_gate.specs.declared.clock_status.ClockStatus.TheVariants.{Disrupted, Unknown, Synchronized, FreeRunning}
 use Rattle.clock_gate.specs.declared.trace.Trace.{Trace}
 use Rattle.segment_layout.specs.Record.{RecordFields}
+use Rattle.status_machine.specs.Incarnation as incarnation
 use Rattle.interval_now.specs.declared.answers.Interval.{Interval}
 use Rattle.interval_now.specs.declared.answers.Causality.{Causality}
 use Rattle.interval_now.specs.Interval.{elapsed_of, growth_of, half_width_of, is_disrupted, is_unabsorbed, client_status, interval_of, IsGrowth, status_by_age}
-use Rattle.status_machine.specs.Incarnation as incarnation
-use Rattle.step_core.specs.RunHost.{marker_by}
+use Rattle.abstract_run.specs.RunHost.{marker_by}
 use Rattle.run_promises.specs.Told.{marker_at}
 use Rattle.run_promises.specs.Judged.{is_trusted}
 

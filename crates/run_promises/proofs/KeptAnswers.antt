@@ -1,17 +1,22 @@
 -- Each answer that is looked at can be judged, and contains the truth where it has no fault.
-use Rattle.run_promises.proofs.FreshRuns.{none_moved, made_few}
-use Rattle.segment_layout.specs.declared.start.Start.TheVariants.{Fresh}
-use Rattle.segment_layout.specs.Image.{start_of}
-use Rattle.segment_layout.proofs.Admitted.{image_of-start}
 use Rattle.std.proofs.Common.{◌≡◌, ℕ, ℤ, ◌≤◌, ◌<◌, Bool, true, false, List, [], ◌∷◌, Option, Some, None, refl, ap, sym, ◌∙◌, subst, arith, ◌+◌, ◌-◌, ◌*◌}
 use Rattle.std.specs.Prelude.{◌==◌, ◌-ℤ◌, ◌+ℤ◌, ◌≤ℤ◌, nat_le, pos, reverse, if◌then◌else◌, unsigned_abs}
 use Rattle.std.proofs.lemmas.Bool.Decides.{nat_tests}
+use Rattle.generation_word.specs.Layout.{period_of}
 use Rattle.clock_gate.specs.declared.trace.Trace.{Trace}
 use Rattle.clock_gate.specs.ClockRow.{row_at}
-use Rattle.generation_word.specs.Layout.{period_of}
+use Rattle.segment_layout.specs.declared.start.Start.TheVariants.{Fresh}
+use Rattle.segment_layout.specs.Image.{start_of}
+use Rattle.segment_layout.proofs.Admitted.{image_of-start}
 use Rattle.interval_now.specs.declared.answers.Answer.TheVariants as answers
 use Rattle.interval_now.specs.declared.answers.Timed.{Timed}
 use Rattle.interval_now.specs.Interval.{half_width_of, elapsed_of, growth_of, IsGrowth}
+use Rattle.abstract_run.specs.declared.event.Event.{Event}
+use Rattle.abstract_run.specs.declared.event.Event.TheVariants.{Opened, Moved, Published, Skipped, Stopped, Answered}
+use Rattle.abstract_run.specs.declared.event.Trail.{Trail}
+use Rattle.abstract_run.specs.RunFacts.{EndedAs, told_at, told_by, StoodBy, is_image_at, AnsweredTells, AllTell, AllBased, given_by, is_kept_at}
+use Rattle.abstract_run.specs.Given.{CanRun}
+use Rattle.abstract_run.proofs.RunFactsLaws.{EndedFits, by_fits, BaseStands, base_stands}
 use Rattle.promise_judge.specs.declared.claim.Claim.{Claim}
 use Rattle.promise_judge.specs.declared.fault.Fault.{Fault}
 use Rattle.promise_judge.specs.declared.fault.Why.{Why}
@@ -21,16 +26,11 @@ use Rattle.promise_judge.specs.Promises.{fault_or, fault_of, wrap_of, image_of, 
 use Rattle.promise_judge.specs.Telling.{IsTold, FitsRows}
 use Rattle.promise_judge.proofs.Contained.{kept_contains}
 use Rattle.promise_judge.proofs.Places.{told_fits}
-use Rattle.step_core.specs.declared.event.Event.{Event}
-use Rattle.step_core.specs.declared.event.Event.TheVariants.{Opened, Moved, Published, Skipped, Stopped, Answered}
-use Rattle.step_core.specs.declared.event.Trail.{Trail}
-use Rattle.step_core.specs.RunFacts.{EndedAs, told_at, told_by, StoodBy, is_image_at, AnsweredTells, AllTell, AllBased, given_by, is_kept_at}
-use Rattle.step_core.specs.SharedReady.{CanRun}
-use Rattle.step_core.proofs.RunFactsLaws.{EndedFits, by_fits, BaseStands, base_stands}
 use Rattle.run_promises.specs.declared.premises.Premises.{Premises}
 use Rattle.run_promises.specs.declared.premises.Premises.TheVariants.{Held, Failed}
 use Rattle.run_promises.specs.Told.{marker_at, IsMarkOf, IsByPublication, AllMarked, IsFresh}
 use Rattle.run_promises.specs.Judged.{image_claim, poll_claim, claim_by_base, claim_by, is_trusted, judged, verdict_of, judged_answer, failed_or, premises_by, EachTrusted, FitsJudge, ContainsTruth, KeepsPromise, AnswersFitJudge, KeptAnswersContainTruth, HeldRunsContainTruth, IsByPoll, FollowsPoll, AnswersFollowPolls, HasPoll, FreshRunsHavePolls}
+use Rattle.run_promises.proofs.FreshRuns.{none_moved, made_few}
 use Rattle.run_promises.proofs.AnyRun.{any_tells, any_marks}
 use Rattle.run_promises.proofs.Chains.{ToldMarked, at_marked, by_marked, at_keeps}
 use Rattle.run_promises.proofs.ClockRows.{clocks_rise, mono_rises, row_placed}

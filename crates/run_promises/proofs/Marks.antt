@@ -2,8 +2,8 @@
 use Rattle.std.proofs.Common.{◌≡◌, ℕ, ◌<◌, Bool, true, false, not, ◌&&◌, ◌||◌, ◌==◌, if◌then◌else◌, List, [], ◌∷◌, Option, Some, None, is_some, refl, ap, sym, ◌∙◌, inl, inr, arith, true≢false}
 use Rattle.std.proofs.lemmas.Bool.{cases_Bool, not-false}
 use Rattle.std.proofs.lemmas.Bool.Decides.{nat_tests}
-use Rattle.candm_codec.specs.declared.tracking.RefTime.{RefTime}
 use Rattle.clock_gate.specs.declared.trace.Trace.{Trace}
+use Rattle.candm_codec.specs.declared.tracking.RefTime.{RefTime}
 use Rattle.segment_layout.specs.declared.publication.Publication.{Publication}
 use Rattle.segment_layout.specs.Record.{RecordFields}
 use Rattle.segment_layout.specs.declared.start.Start.{Start}
@@ -16,12 +16,12 @@ use Rattle.status_machine.specs.BaseMarker.{start_marker}
 use Rattle.status_machine.proofs.BaseMarker.{marker_before}
 use Rattle.status_machine.proofs.BaseOfPoll.{base_of_poll-number}
 use Rattle.status_machine.proofs.LookBack.{absorbs, absorbed_none, is_absorbed-append}
-use Rattle.step_core.specs.declared.event.Event.{Event}
-use Rattle.step_core.specs.declared.event.Event.TheVariants.{Published}
-use Rattle.step_core.specs.RunDaemon.{Life}
-use Rattle.step_core.specs.RunFacts.{EndedAs, told_by, AllEarlier}
-use Rattle.step_core.specs.RunHost.{marker_by}
-use Rattle.step_core.proofs.RunFactsBases.{told_below, other_found}
+use Rattle.abstract_run.specs.declared.event.Event.{Event}
+use Rattle.abstract_run.specs.declared.event.Event.TheVariants.{Published}
+use Rattle.abstract_run.specs.RunDaemon.{Life}
+use Rattle.abstract_run.specs.RunFacts.{EndedAs, told_by, AllEarlier}
+use Rattle.abstract_run.specs.RunHost.{marker_by}
+use Rattle.abstract_run.proofs.RunFactsBases.{told_below, other_found}
 use Rattle.run_promises.specs.Told.{marker_at, IsMarkOf}
 
 -- ---- a poll that doesn't mark leaves a mark as it is, unless it is good

@@ -5,10 +5,10 @@ use Rattle.clock_gate.specs.declared.trace.HostRow.{HostRow}
 use Rattle.clock_gate.specs.declared.trace.HostRow.TheVariants.{Clock, Page, Disrupt}
 use Rattle.clock_gate.specs.declared.trace.Trace.{Trace}
 use Rattle.vmclock_page.specs.Rows.{ArePageRows}
+use Rattle.abstract_run.specs.RunHost.{page_rows, pages_at, marker_of}
+use Rattle.abstract_run.specs.RunHost.{marker_by}
 use Rattle.promise_judge.specs.Markers.{start_marker, marker_after}
 use Rattle.promise_judge.specs.Containment as judge
-use Rattle.step_core.specs.RunHost.{page_rows, pages_at, marker_of}
-use Rattle.step_core.specs.RunHost.{marker_by}
 use Rattle.run_promises.specs.Told.{marker_at}
 
 page_by : (words : List ℕ) (rows : List HostRow) (done : ℕ) → marker_after (Some (slice_index words 2)) (take done rows)

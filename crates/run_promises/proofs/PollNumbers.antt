@@ -2,18 +2,18 @@
 use Rattle.std.proofs.Common.{◌≡◌, ℕ, ◌+◌, ◌≤◌, ◌<◌, Bool, true, false, List, length, Option, Some, None, refl, arith, ◌∷◌}
 use Rattle.std.specs.Prelude.{slice_get, if◌then◌else◌}
 use Rattle.std.proofs.lemmas.Option.{slice_get_within}
+use Rattle.std.specs.Prelude.{◌==◌}
 use Rattle.clock_gate.specs.declared.trace.PollRow.{PollRow}
 use Rattle.clock_gate.specs.declared.trace.Trace.{Trace}
+use Rattle.vmclock_page.specs.Host.{count_of}
 use Rattle.segment_layout.specs.declared.start.Start.{Start}
 use Rattle.status_machine.specs.declared.poll.Poll.{Poll}
-use Rattle.step_core.specs.RunHost.{HostRun, clocks_at, page_shown}
-use Rattle.step_core.specs.RunPage.{PageAfter, Looks, Saw, Missed, page_load, is_marker_next}
-use Rattle.step_core.specs.RunSegment.{SegmentRun, is_old, start_found, opening_effect, opening_length, stored}
-use Rattle.step_core.specs.RunDaemon as run_daemon
-use Rattle.step_core.specs.RunDaemon.{Life, Asked, Storing, Work, Resting, Opening, Asking, Looking, Taking, Writing, DaemonRun, DaemonTurn, daemon_turn, marked_by}
-use Rattle.step_core.specs.RunWhole.{is_resting}
-use Rattle.vmclock_page.specs.Host.{count_of}
-use Rattle.std.specs.Prelude.{◌==◌}
+use Rattle.segment_run.specs.SegmentRun.{SegmentRun, is_old, start_found, opening_effect, opening_length, stored}
+use Rattle.abstract_run.specs.RunHost.{HostRun, clocks_at, page_shown}
+use Rattle.abstract_run.specs.RunPage.{PageAfter, Looks, Saw, Missed, page_load, is_marker_next}
+use Rattle.abstract_run.specs.RunDaemon as run_daemon
+use Rattle.abstract_run.specs.RunDaemon.{Life, Asked, Storing, Work, Resting, Opening, Asking, Looking, Taking, Writing, DaemonRun, DaemonTurn, daemon_turn, marked_by}
+use Rattle.abstract_run.specs.RunWhole.{is_resting}
 
 -- no more polls were begun than the trace has, and one that is in hand was begun
 pub record Numbered (trace : Trace) (daemon : DaemonRun) : Type 0 where

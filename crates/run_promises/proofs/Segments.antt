@@ -6,10 +6,10 @@ use Rattle.std.proofs.lemmas.Bool.Decides.{nat_tests}
 use Rattle.std.proofs.lemmas.List.{get_or_append_left}
 use Rattle.std.proofs.Math.Seq.{get_or-append_seam}
 use Rattle.segment_layout.specs.declared.publication.Publication.{Publication}
-use Rattle.step_core.specs.declared.event.Event.{Event}
-use Rattle.step_core.specs.declared.event.Event.TheVariants.{Opened, Moved, Published, Skipped, Stopped, Answered}
-use Rattle.step_core.specs.RunSegment.{no_publication}
-use Rattle.step_core.specs.RunFacts.{EndedAs, told_at}
+use Rattle.segment_run.specs.SegmentRun.{no_publication}
+use Rattle.abstract_run.specs.declared.event.Event.{Event}
+use Rattle.abstract_run.specs.declared.event.Event.TheVariants.{Opened, Moved, Published, Skipped, Stopped, Answered}
+use Rattle.abstract_run.specs.RunFacts.{EndedAs, told_at}
 
 -- ---- the publications of a history, after a position
 

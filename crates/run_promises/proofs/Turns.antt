@@ -1,35 +1,35 @@
 -- Each turn of any party keeps what the events of a run tell.
-use Rattle.run_promises.proofs.PollNumbers.{Numbered, turn_numbered}
-use Rattle.run_promises.specs.Told.{KnowsPoll}
 use Rattle.std.proofs.Common.{◌≡◌, ℕ, zero, suc, ◌+◌, ◌-◌, ◌<◌, ◌≤◌, Bool, true, false, List, [], ◌∷◌, ◌++◌, length, Option, Some, None, refl, sym, ◌∙◌, subst, arith}
 use Rattle.std.specs.Prelude.{◌==◌, ◌/◌, ◌^◌, reverse, slice_get, slice_set, slice_index, slice_index_or, if◌then◌else◌}
 use Rattle.std.specs.List.{range_with_len}
 use Rattle.std.proofs.lemmas.List.{reverse-append}
+use Rattle.generation_word.specs.Header.{header_of}
 use Rattle.clock_gate.specs.declared.trace.HostRow.{HostRow}
 use Rattle.clock_gate.specs.declared.trace.HostRow.TheVariants.{Clock, Page, Disrupt}
 use Rattle.clock_gate.specs.declared.trace.Party.{Party}
 use Rattle.clock_gate.specs.declared.trace.Party.TheVariants.{Host, Daemon, Client}
 use Rattle.clock_gate.specs.declared.trace.Trace.{Trace}
+use Rattle.vmclock_page.specs.Host.{count_of}
 use Rattle.segment_layout.specs.declared.publication.Publication.{Publication}
 use Rattle.segment_layout.specs.declared.start.Start.{Start}
 use Rattle.segment_layout.specs.declared.start.Start.TheVariants.{Fresh, Kept, Torn}
-use Rattle.generation_word.specs.Header.{header_of}
 use Rattle.segment_layout.specs.Image.{start_of}
 use Rattle.segment_layout.proofs.Admitted.{image_of-start}
-use Rattle.vmclock_page.specs.Host.{count_of}
-use Rattle.step_core.specs.declared.event.Event.{Event}
-use Rattle.step_core.specs.declared.event.Event.TheVariants as events
-use Rattle.step_core.specs.Run.{Run, turn, turns_by, start, with_client, answer_events, client_turn_in}
-use Rattle.step_core.specs.RunHost.{HostRun, pages_at, row_turn, host_turn}
-use Rattle.step_core.specs.RunSegment.{SegmentRun, segment_by, image_publication, no_publication}
-use Rattle.step_core.specs.RunDaemon.{Life, Work, Resting, Opening, Asking, Looking, Taking, Writing, DaemonRun, daemon_turn}
-use Rattle.step_core.specs.RunClient as run_client
-use Rattle.step_core.specs.RunClient.{Answered, ClientRun, ClientTurn}
-use Rattle.step_core.specs.SharedReady.{CanRun}
-use Rattle.step_core.proofs.RunFactsClient.{CallFits}
-use Rattle.step_core.proofs.RunFactsHold.{AllFit, RunHolds, turn_holds, start_holds}
-use Rattle.step_core.proofs.RunFactsBaseTurn.{Based, based_same, daemon_based}
-use Rattle.step_core.proofs.SegmentStart.{kept_number}
+use Rattle.segment_run.specs.SegmentRun.{SegmentRun, segment_by, image_publication, no_publication}
+use Rattle.segment_run.proofs.SegmentStart.{kept_number}
+use Rattle.abstract_run.specs.declared.event.Event.{Event}
+use Rattle.abstract_run.specs.declared.event.Event.TheVariants as events
+use Rattle.abstract_run.specs.Run.{Run, turn, turns_by, start, with_client, answer_events, client_turn_in}
+use Rattle.abstract_run.specs.RunHost.{HostRun, pages_at, row_turn, host_turn}
+use Rattle.abstract_run.specs.RunDaemon.{Life, Work, Resting, Opening, Asking, Looking, Taking, Writing, DaemonRun, daemon_turn}
+use Rattle.abstract_run.specs.RunClient as run_client
+use Rattle.abstract_run.specs.RunClient.{Answered, ClientRun, ClientTurn}
+use Rattle.abstract_run.specs.Given.{CanRun}
+use Rattle.abstract_run.proofs.RunFactsClient.{CallFits}
+use Rattle.abstract_run.proofs.RunFactsHold.{AllFit, RunHolds, turn_holds, start_holds}
+use Rattle.abstract_run.proofs.RunFactsBaseTurn.{Based, based_same, daemon_based}
+use Rattle.run_promises.specs.Told.{KnowsPoll}
+use Rattle.run_promises.proofs.PollNumbers.{Numbered, turn_numbered}
 use Rattle.run_promises.proofs.PageReads.{turn_pages, look_later}
 use Rattle.run_promises.proofs.Segments.{entry_at}
 use Rattle.run_promises.proofs.DaemonStates.{WorkMarked, DaemonMarked, daemon_same}

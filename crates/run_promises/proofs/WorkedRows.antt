@@ -1,20 +1,20 @@
 -- Worked rows: the premises of some events, by computing.
 use Rattle.std.proofs.Common.{◌≡◌, ℕ, List, [], ◌∷◌, Some, None, replicate, refl, true}
 use Rattle.std.specs.Prelude.{pos}
+use Rattle.generation_word.specs.declared.layout.Layout.TheVariants.{Two}
 use Rattle.clock_gate.specs.declared.clock_status.ClockStatus.{ClockStatus}
 use Rattle.clock_gate.specs.declared.clock_status.ClockStatus.TheVariants.{Unknown, Synchronized, FreeRunning, Disrupted}
 use Rattle.clock_gate.specs.declared.clock_row.ClockRow.{ClockRow}
 use Rattle.clock_gate.specs.declared.trace.HostRow.{HostRow}
 use Rattle.clock_gate.specs.declared.trace.HostRow.TheVariants.{Clock, Page, Disrupt}
 use Rattle.clock_gate.specs.declared.trace.Trace.{Trace}
-use Rattle.generation_word.specs.declared.layout.Layout.TheVariants.{Two}
 use Rattle.segment_layout.specs.declared.publication.Publication.{Publication}
 use Rattle.segment_layout.specs.declared.start.Start.TheVariants.{Fresh}
 use Rattle.interval_now.specs.declared.answers.Answer.TheVariants.{Time, NotInitialized}
+use Rattle.abstract_run.specs.declared.event.Event.{Event}
+use Rattle.abstract_run.specs.declared.event.Event.TheVariants.{Opened, Published, Answered}
 use Rattle.promise_judge.specs.declared.fault.Why.TheVariants.{Wrap, Image, Drift, Mark}
 use Rattle.promise_judge.specs.Promises.{fault_of}
-use Rattle.step_core.specs.declared.event.Event.{Event}
-use Rattle.step_core.specs.declared.event.Event.TheVariants.{Opened, Published, Answered}
 use Rattle.run_promises.specs.declared.premises.Premises.TheVariants.{Held, Failed}
 use Rattle.run_promises.specs.Judged.{premises_of}
 

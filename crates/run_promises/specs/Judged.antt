@@ -1,27 +1,27 @@
 -- What is judged of the answers of a run: the claim that the events before an answer make of it, its first fault, and the first
 -- answer that has one. `past` has the events before, the newest first.
-use Rattle.promise_judge.specs.Positions.{position_of}
-use Rattle.run_promises.specs.Told.{IsFresh}
-use Rattle.generation_word.specs.Layout.{period_of}
-use Rattle.promise_judge.specs.Containment.{IsTrusted}
-use Rattle.interval_now.specs.Interval.{IsGrowth}
 use Rattle.std.specs.Prelude.{◌≡◌, ℕ, ◌<◌, ◌≤ℤ◌, pos, unsigned_abs, ◌^◌, Bool, true, false, if◌then◌else◌, List, [], ◌∷◌, reverse, slice_index, Option, Some, None, ◌+◌, ◌-◌, ◌+ℤ◌, ◌-ℤ◌, ◌≤◌, length}
+use Rattle.generation_word.specs.Layout.{period_of}
 use Rattle.clock_gate.specs.declared.clock_status.ClockStatus.{ClockStatus}
 use Rattle.clock_gate.specs.declared.clock_status.ClockStatus.TheVariants.{Synchronized, FreeRunning}
 use Rattle.clock_gate.specs.declared.trace.Trace.{Trace}
 use Rattle.clock_gate.specs.ClockRow.{row_at}
+use Rattle.interval_now.specs.Interval.{IsGrowth}
 use Rattle.interval_now.specs.declared.answers.Answer.{Answer}
 use Rattle.interval_now.specs.declared.answers.Answer.TheVariants as answers
 use Rattle.interval_now.specs.declared.answers.Timed.{Timed}
+use Rattle.abstract_run.specs.declared.event.Event.{Event}
+use Rattle.abstract_run.specs.declared.event.Event.TheVariants.{Answered}
+use Rattle.abstract_run.specs.declared.event.Trail.{Trail}
+use Rattle.abstract_run.specs.RunFacts.{EndedAs, told_at, told_by, given_by}
+use Rattle.abstract_run.specs.Given.{CanRun}
+use Rattle.promise_judge.specs.Positions.{position_of}
+use Rattle.promise_judge.specs.Containment.{IsTrusted}
 use Rattle.promise_judge.specs.declared.claim.Claim.{Claim}
 use Rattle.promise_judge.specs.declared.fault.Fault.{Fault}
 use Rattle.promise_judge.specs.Promises.{fault_of}
 use Rattle.promise_judge.specs.Telling.{FitsRows}
-use Rattle.step_core.specs.declared.event.Event.{Event}
-use Rattle.step_core.specs.declared.event.Event.TheVariants.{Answered}
-use Rattle.step_core.specs.declared.event.Trail.{Trail}
-use Rattle.step_core.specs.RunFacts.{EndedAs, told_at, told_by, given_by}
-use Rattle.step_core.specs.SharedReady.{CanRun}
+use Rattle.run_promises.specs.Told.{IsFresh}
 use Rattle.run_promises.specs.declared.premises.Premises.{Premises}
 use Rattle.run_promises.specs.declared.premises.Premises.TheVariants.{Held, Failed}
 use Rattle.run_promises.specs.Runs.{IsRunOf}

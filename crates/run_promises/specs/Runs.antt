@@ -2,12 +2,12 @@
 use Rattle.std.specs.Prelude.{◌≡◌, ℕ, ◌<◌, ◌≤◌, ◌^◌, List, reverse, slice_index, Some, None}
 use Rattle.clock_gate.specs.declared.trace.Party.{Party}
 use Rattle.clock_gate.specs.declared.trace.Trace.{Trace}
-use Rattle.step_core.specs.declared.event.Event.{Event}
-use Rattle.step_core.specs.Run.{start, turns_by}
-use Rattle.step_core.specs.RunFacts.{EndedAs, told_at, AllTell, AllBased}
-use Rattle.step_core.specs.RunSegment.{SegmentRun, published_at}
-use Rattle.step_core.specs.RunWhole.{run_of}
-use Rattle.step_core.specs.SharedReady.{CanRun}
+use Rattle.segment_run.specs.SegmentRun.{SegmentRun, published_at}
+use Rattle.abstract_run.specs.declared.event.Event.{Event}
+use Rattle.abstract_run.specs.Run.{start, turns_by}
+use Rattle.abstract_run.specs.RunFacts.{EndedAs, told_at, AllTell, AllBased}
+use Rattle.abstract_run.specs.RunWhole.{run_of}
+use Rattle.abstract_run.specs.Given.{CanRun}
 use Rattle.run_promises.specs.Told.{AllMarked}
 
 -- after some turns these are the events

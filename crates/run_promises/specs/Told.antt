@@ -1,11 +1,12 @@
 -- What the events of a run tell of markers, and of the records that answers are by. `past` has the events before, the newest first.
-use Rattle.segment_layout.specs.Image.{image_of}
-use Rattle.segment_layout.specs.declared.start.Start.TheVariants.{Fresh}
 use Rattle.std.specs.Prelude.{◌≡◌, ◌≢◌, ℕ, ◌<◌, List, [], ◌∷◌, Option, Some, is_some, Ok, ◌≤◌, length}
+use Rattle.generation_word.specs.Layout.{period_of}
 use Rattle.clock_gate.specs.declared.clock_status.ClockStatus.{ClockStatus}
 use Rattle.clock_gate.specs.declared.clock_status.ClockStatus.TheVariants.{Disrupted, Unknown}
 use Rattle.clock_gate.specs.declared.trace.Trace.{Trace}
-use Rattle.generation_word.specs.Layout.{period_of}
+use Rattle.clock_gate.specs.ClockRow.{row_at}
+use Rattle.segment_layout.specs.Image.{image_of}
+use Rattle.segment_layout.specs.declared.start.Start.TheVariants.{Fresh}
 use Rattle.segment_layout.specs.declared.publication.Publication.{Publication}
 use Rattle.segment_layout.specs.Record.{RecordFields}
 use Rattle.status_machine.specs.Incarnation as incarnation
@@ -13,12 +14,11 @@ use Rattle.interval_now.specs.declared.answers.Answer.{Answer}
 use Rattle.interval_now.specs.declared.answers.Answer.TheVariants as answers
 use Rattle.interval_now.specs.declared.answers.Timed.{Timed}
 use Rattle.interval_now.specs.Interval.{interval_of}
-use Rattle.clock_gate.specs.ClockRow.{row_at}
-use Rattle.step_core.specs.declared.event.Event.{Event}
-use Rattle.step_core.specs.declared.event.Event.TheVariants.{Moved, Published, Answered}
-use Rattle.step_core.specs.declared.event.Trail.{Trail}
-use Rattle.step_core.specs.RunFacts.{EndedAs, told_at, told_by}
-use Rattle.step_core.specs.RunHost.{marker_by}
+use Rattle.abstract_run.specs.declared.event.Event.{Event}
+use Rattle.abstract_run.specs.declared.event.Event.TheVariants.{Moved, Published, Answered}
+use Rattle.abstract_run.specs.declared.event.Trail.{Trail}
+use Rattle.abstract_run.specs.RunFacts.{EndedAs, told_at, told_by}
+use Rattle.abstract_run.specs.RunHost.{marker_by}
 
 -- the page's marker when so many rows of the host were done, where there is a page
 abbrev pub marker_at : Trace → (done : ℕ) → Option ℕ

@@ -1,9 +1,9 @@
 -- As many positions are made in one order of the events as in the other.
 use Rattle.std.proofs.Common.{◌≡◌, ◌+◌, List, [], ◌∷◌, ◌++◌, reverse, refl, ap, ◌∙◌, arith}
 use Rattle.std.proofs.lemmas.List.{reverse-append}
-use Rattle.step_core.specs.declared.event.Event.{Event}
-use Rattle.step_core.specs.declared.event.Event.TheVariants.{Opened, Moved, Published, Skipped, Stopped, Answered}
-use Rattle.step_core.specs.RunFacts.{made_by}
+use Rattle.abstract_run.specs.declared.event.Event.{Event}
+use Rattle.abstract_run.specs.declared.event.Event.TheVariants.{Opened, Moved, Published, Skipped, Stopped, Answered}
+use Rattle.abstract_run.specs.RunFacts.{made_by}
 
 made_more : (told more : List Event) → made_by (told ++ more) ≡ made_by told + made_by more
 made_more [] more = let none : made_by [] ≡ 0 = refl in omega (arith, none)

@@ -1,10 +1,10 @@
 -- One event further back.
 use Rattle.std.proofs.Common.{◌≡◌, ◌<◌, ◌+◌, ◌-◌, ◌==◌, ◌∷◌, ℕ, zero, suc, true, false, List, slice_index_or, Some, None, refl, sym, ◌∙◌, ap, subst, arith}
 use Rattle.std.proofs.lemmas.Bool.Decides.{nat_tests}
-use Rattle.step_core.specs.RunFacts.{EndedAs}
-use Rattle.step_core.specs.declared.event.Event.{Event}
-use Rattle.step_core.specs.declared.event.Event.TheVariants.{Opened, Moved, Published, Skipped, Stopped, Answered}
-use Rattle.step_core.specs.RunFacts.{told_at, told_by}
+use Rattle.abstract_run.specs.RunFacts.{EndedAs}
+use Rattle.abstract_run.specs.declared.event.Event.{Event}
+use Rattle.abstract_run.specs.declared.event.Event.TheVariants.{Opened, Moved, Published, Skipped, Stopped, Answered}
+use Rattle.abstract_run.specs.RunFacts.{told_at, told_by}
 use Rattle.run_verdict.specs.Past.{no_event, past_of, ended_in, at_or, by_or}
 
 -- the last publication of a position, one event more

@@ -1,7 +1,7 @@
 -- Tables with one event more.
 use Rattle.std.proofs.Common.{◌≡◌, ◌<◌, ◌+◌, ℕ, Bool, true, false, cond, nat_eq, List, slice_index_or, Option, Some, sym, ◌∙◌, ap, arith}
-use Rattle.step_core.specs.declared.event.Event.{Event}
-use Rattle.step_core.specs.RunFacts.{EndedAs, told_at, told_by}
+use Rattle.abstract_run.specs.declared.event.Event.{Event}
+use Rattle.abstract_run.specs.RunFacts.{EndedAs, told_at, told_by}
 use Rattle.run_verdict.specs.Past.{no_event, past_of, ended_in, at_or, by_or}
 use Rattle.run_verdict.specs.Tables.{ended_at}
 use Rattle.run_verdict.proofs.Backwards.{read_on, base_on, past_on}

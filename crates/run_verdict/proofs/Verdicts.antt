@@ -4,8 +4,8 @@ use Rattle.std.proofs.lemmas.Bool.{cases_eq}
 use Rattle.std.proofs.lemmas.List.{reverse-append, take_all, take_more}
 use Rattle.clock_gate.specs.declared.trace.Trace.{Trace}
 use Rattle.interval_now.specs.declared.answers.Answer.TheVariants as answers
-use Rattle.step_core.specs.declared.event.Event.{Event}
-use Rattle.step_core.specs.declared.event.Event.TheVariants.{Opened, Moved, Published, Skipped, Stopped, Answered}
+use Rattle.abstract_run.specs.declared.event.Event.{Event}
+use Rattle.abstract_run.specs.declared.event.Event.TheVariants.{Opened, Moved, Published, Skipped, Stopped, Answered}
 use Rattle.run_promises.specs.declared.premises.Premises.{Premises}
 use Rattle.run_promises.specs.declared.premises.Premises.TheVariants.{Held, Failed}
 use Rattle.run_promises.specs.Judged.{failed_or, premises_by, premises_of, EachTrusted, FitsJudge}

@@ -3,9 +3,9 @@ use Rattle.std.specs.Prelude.{◌≡◌, ◌<◌, ℕ, true, List, length, slice
 use Rattle.clock_gate.specs.declared.trace.Trace.{Trace}
 use Rattle.interval_now.specs.declared.answers.Answer.{Answer}
 use Rattle.interval_now.specs.declared.answers.Answer.TheVariants as answers
-use Rattle.step_core.specs.declared.event.Event.{Event}
-use Rattle.step_core.specs.declared.event.Event.TheVariants.{Answered}
-use Rattle.step_core.specs.declared.event.Trail.{Trail}
+use Rattle.abstract_run.specs.declared.event.Event.{Event}
+use Rattle.abstract_run.specs.declared.event.Event.TheVariants.{Answered}
+use Rattle.abstract_run.specs.declared.event.Trail.{Trail}
 use Rattle.run_promises.specs.declared.premises.Premises.{Premises}
 use Rattle.run_promises.specs.declared.premises.Premises.TheVariants.{Held}
 use Rattle.run_promises.specs.Judged.{is_trusted, judged_answer, FitsJudge}

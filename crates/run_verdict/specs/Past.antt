@@ -1,9 +1,9 @@
 -- The events before one of a run, the newest first.
 use Rattle.std.specs.Prelude.{ℕ, zero, suc, ◌==◌, if◌then◌else◌, List, [], ◌∷◌, slice_index_or, Option, Some, None}
 use Rattle.segment_layout.specs.declared.start.Start.TheVariants.{Fresh}
-use Rattle.step_core.specs.declared.event.Event.{Event}
-use Rattle.step_core.specs.declared.event.Event.TheVariants.{Opened, Published}
-use Rattle.step_core.specs.RunFacts.{EndedAs}
+use Rattle.abstract_run.specs.declared.event.Event.{Event}
+use Rattle.abstract_run.specs.declared.event.Event.TheVariants.{Opened, Published}
+use Rattle.abstract_run.specs.RunFacts.{EndedAs}
 
 -- what stands where there is no event
 abbrev pub no_event : Event

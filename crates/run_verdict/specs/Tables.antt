@@ -1,8 +1,8 @@
 -- What tables of the publications so far say of the events before a place.
 use Rattle.std.specs.Prelude.{◌≡◌, ℕ, ◌<◌, nat_eq, List, slice_index_or, Option, Some, None}
 use Rattle.std.specs.HashMap.{get}
-use Rattle.step_core.specs.declared.event.Event.{Event}
-use Rattle.step_core.specs.RunFacts.{EndedAs, told_at, told_by}
+use Rattle.abstract_run.specs.declared.event.Event.{Event}
+use Rattle.abstract_run.specs.RunFacts.{EndedAs, told_at, told_by}
 use Rattle.run_verdict.specs.declared.past.Past.{Past}
 use Rattle.run_verdict.specs.Past.{no_event, past_of, ended_in}
 

@@ -5,11 +5,11 @@ ghost use Rattle.run_verdict.specs.Past.{past_of};
 
 use crate::ended::Ended;
 use crate::looking::{base_before, read_before};
+use abstract_run::{Event, Trail};
 use clock_gate::ClockStatus;
 use interval_now::Timed;
 use promise_judge::{Claim, Fault};
 use run_promises::Premises;
-use step_core::{Event, Trail};
 
 // No poll gave the base: the record stood in the image.
 fn image_claim(time: &Timed, trail: &Trail) -> Claim

@@ -16,7 +16,7 @@ pub struct Ended {
 }
 
 impl Model for Ended {
-    ghost use Rattle.step_core.specs.RunFacts.{EndedAs};
+    ghost use Rattle.abstract_run.specs.RunFacts.{EndedAs};
 
     ghost Value = { EndedAs };
 

@@ -1,10 +1,10 @@
 //! Looking back over the events before one.
 ghost use Rattle.std.specs.Prelude.{◌≡◌, ◌≤◌, length};
-ghost use Rattle.step_core.specs.RunFacts.{told_at, told_by};
+ghost use Rattle.abstract_run.specs.RunFacts.{told_at, told_by};
 ghost use Rattle.run_verdict.specs.Past.{ended_in, past_of};
 
 use crate::ended::Ended;
-use step_core::Event;
+use abstract_run::Event;
 
 /// The publication that an event tells, where it tells one.
 pub fn ended_in(event: &Event) -> Option<Ended>

@@ -1,15 +1,15 @@
 //! The publications so far, found by their position or by their poll.
 ghost use Rattle.std.specs.Prelude.{◌≡◌, ◌+◌, ◌<◌, length, OnOk, List};
-ghost use Rattle.step_core.specs.declared.event.Event.{Event};
-ghost use Rattle.step_core.specs.RunFacts.{told_at, told_by};
+ghost use Rattle.abstract_run.specs.declared.event.Event.{Event};
+ghost use Rattle.abstract_run.specs.RunFacts.{told_at, told_by};
 ghost use Rattle.run_verdict.specs.Past.{past_of};
 ghost use Rattle.run_verdict.specs.Tables.{ShowsPast};
 
 use crate::ended::Ended;
 use crate::looking::ended_in;
+use abstract_run::Event;
 use std::alloc::{AllocError, Global};
 use std::collections::HashMap;
-use step_core::Event;
 
 /// Where the publications so far stand among the events, each place from 0: the last one that made a position, and the last one of a
 /// poll.

@@ -1,16 +1,17 @@
 //! The verdicts of worked runs: each run's whole schedule, judged by walking back and by tables.
 ghost use Rattle.std.specs.Prelude.{◌≡◌, ◌≤◌, length};
-ghost use Rattle.step_core.specs.RunWhole.{run_of};
-ghost use Rattle.step_core.specs.SharedReady.{CanRun};
-ghost use Rattle.step_core.specs.declared.limits.TheConstants.{MOST_EVENTS};
+ghost use Rattle.abstract_run.specs.RunWhole.{run_of};
+ghost use Rattle.abstract_run.specs.Given.{CanRun};
+ghost use Rattle.abstract_run.specs.declared.limits.TheConstants.{MOST_EVENTS};
 
 use crate::{judged_run, premises};
+use abstract_run::Event;
 use clock_gate::{Memory, Trace};
 use promise_judge::Why;
 use run_promises::{Premises, any_run};
 use std::alloc::{AllocError, Global};
 use std::test::Fail;
-use step_core::{Event, World};
+use step_core::World;
 use trace_reader::{TraceError, read_trace};
 
 // A tracking reply: its bound is 244,142 ns.

@@ -2,10 +2,10 @@
 use Rattle.std.proofs.Common.{◌≡◌, ℕ, List, [], ◌∷◌, refl, ap, sym, ◌∙◌, subst, Option, Some, None}
 use Rattle.std.specs.Option.{option_map}
 use Rattle.clock_gate.specs.Acts.{Touch, Wanted, replayed}
-use Rattle.clock_gate.specs.Tries.{SeqlockRead, Outcome, Unpublished, AllFailed, Found, started, read_end}
-use Rattle.clock_gate.specs.TriedRun.{Did, CameTo}
-use Rattle.clock_gate.proofs.Tries as laws
-use Rattle.clock_gate.proofs.TriedRun as runs
+use Rattle.seqlock.specs.Tries.{SeqlockRead, Outcome, Unpublished, AllFailed, Found, started, read_end}
+use Rattle.seqlock.specs.TriedRun.{Did, CameTo}
+use Rattle.seqlock.proofs.Tries as laws
+use Rattle.seqlock.proofs.TriedRun as runs
 use Rattle.shm_reader.specs.declared.seen.Seen.{Seen}
 use Rattle.shm_reader.specs.declared.seen.Seen.TheVariants.{Whole, Busy, NotInitialized}
 use Rattle.shm_reader.specs.SegmentTries.{segment_lock, record_in, seen_of, act_of, given}

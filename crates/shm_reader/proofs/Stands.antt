@@ -7,14 +7,15 @@ use Rattle.std.proofs.lemmas.Bool.Decides.{nat_tests}
 use Rattle.std.proofs.lemmas.List.{get_or-set_other, get_or-take}
 use Rattle.std.proofs.lemmas.Grind.{get_or-set_at, take-set_at}
 use Rattle.std.proofs.Math.Seq.{take-suc}
-use Rattle.clock_gate.specs.declared.act.Act.TheVariants.{End}
 use Rattle.std.specs.Prelude.{Some, None}
 use Rattle.std.specs.Option.{option_map}
-use Rattle.clock_gate.specs.Tries.{Outcome, act_of as act_of_progress, end_of as end_of_progress}
-use Rattle.clock_gate.specs.Tries.{SeqlockRead, Progress, Asks, Ends, Unpublished, Found, IsCalm, IsStage, progress, with_value, failed_try}
-use Rattle.clock_gate.proofs.Tries as laws
+use Rattle.generation_word.specs.Header.{generation_in}
+use Rattle.clock_gate.specs.declared.act.Act.TheVariants.{End}
+use Rattle.seqlock.specs.Tries.{Outcome, act_of as act_of_progress, end_of as end_of_progress}
+use Rattle.seqlock.specs.Tries.{SeqlockRead, Progress, Asks, Ends, Unpublished, Found, IsCalm, IsStage, progress, with_value, failed_try}
+use Rattle.seqlock.proofs.Tries as laws
 use Rattle.segment_layout.specs.Words.{IsGoodWord, AreGoodWords}
-use Rattle.shm_reader.specs.SegmentTries.{generation_in, segment_lock, seen_of, act_of, given, end_of, steps_left, stands, IsGoodLoad}
+use Rattle.shm_reader.specs.SegmentTries.{segment_lock, seen_of, act_of, given, end_of, steps_left, stands, IsGoodLoad}
 
 -- ---- the loads as a list
 

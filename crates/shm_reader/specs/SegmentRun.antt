@@ -1,12 +1,13 @@
 -- The steps of a read of the segment, try by try. This project's own.
 use Rattle.std.specs.Prelude.{◌≡◌, ◌↔◌, ℕ, List, Some}
+use Rattle.generation_word.specs.Header.{generation_in}
 use Rattle.clock_gate.specs.Acts.{Touch, Wanted, replayed}
-use Rattle.clock_gate.specs.Tries.{started}
-use Rattle.clock_gate.specs.TriedRun.{FindsWords, FindsNothing, FailsAlways}
+use Rattle.seqlock.specs.Tries.{started}
+use Rattle.seqlock.specs.TriedRun.{FindsWords, FindsNothing, FailsAlways}
 use Rattle.segment_layout.specs.Record.{RecordFields}
 use Rattle.shm_reader.specs.declared.seen.Seen.{Seen}
 use Rattle.shm_reader.specs.declared.seen.Seen.TheVariants.{Whole, Busy, NotInitialized}
-use Rattle.shm_reader.specs.SegmentTries.{segment_lock, generation_in, record_in, act_of, given, end_of}
+use Rattle.shm_reader.specs.SegmentTries.{segment_lock, record_in, act_of, given, end_of}
 
 -- fewer than so many tries failed; the next one loaded word 1 with this generation, which is even and not 0, the words of
 -- this record, and the same word 1 again

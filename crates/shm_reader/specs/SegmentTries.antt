@@ -2,19 +2,15 @@
 -- own, after ClockBound's PROTOCOL.
 use Rattle.std.specs.Prelude.{ℕ, List, ◌∷◌, take, Option, ◌==◌}
 use Rattle.std.specs.Option.{option_map}
+use Rattle.generation_word.specs.Header.{generation_in}
 use Rattle.clock_gate.specs.declared.act.Act.{Act}
 use Rattle.clock_gate.specs.declared.act.Act.TheVariants.{Load, Store, End}
-use Rattle.clock_gate.specs.Tries.{Seqlock, SeqlockRead, Outcome, Unpublished, AllFailed, Found, read_act, read_end}
-use Rattle.clock_gate.specs.Tries as tries
-use Rattle.generation_word.specs.Header.{header_of}
+use Rattle.seqlock.specs.Tries.{Seqlock, SeqlockRead, Outcome, Unpublished, AllFailed, Found, read_act, read_end}
+use Rattle.seqlock.specs.Tries as tries
 use Rattle.segment_layout.specs.Record.{RecordFields}
 use Rattle.segment_layout.specs.Words.{IsGoodWord, fields_of_words}
 use Rattle.shm_reader.specs.declared.seen.Seen.{Seen}
 use Rattle.shm_reader.specs.declared.seen.Seen.TheVariants.{Whole, Busy, NotInitialized}
-
--- the generation that word 1 tells
-abbrev pub generation_in : ℕ → ℕ
-generation_in word = (header_of word).2
 
 -- words 2 to 9 stand under the generation in word 1; generation 0 says that nothing was published, and word 1 is compared
 -- whole, with its size and version

@@ -1,7 +1,7 @@
 //! What a read of the segment promises for all values that it can be given.
 ghost use Rattle.std.specs.Prelude.{◌≡◌, ℕ, ◌+◌, ◌*◌, ◌≤◌, List, length};
 ghost use Rattle.clock_gate.specs.Acts.{after, WereAsked};
-ghost use Rattle.clock_gate.specs.Tries.{started, progress, read_of};
+ghost use Rattle.seqlock.specs.Tries.{started, progress, read_of};
 ghost use Rattle.shm_reader.specs.SegmentRun.{IsToldByItsTries};
 ghost use Rattle.shm_reader.specs.SegmentTries.{segment_lock, act_of, given};
 

@@ -3,8 +3,9 @@ ghost use Rattle.std.specs.Prelude.{◌≡◌, ◌≢◌, ◌≤◌, ◌<◌, []
 ghost use Rattle.clock_gate.specs.declared.limits.TheConstants.{MOST_TRIES};
 ghost use Rattle.clock_gate.specs.Acts.{IsLoadWithin};
 ghost use Rattle.segment_layout.specs.Words.{AreGoodWords};
-ghost use Rattle.clock_gate.specs.Tries.{started, failed_try, with_value, IsStage};
-ghost use Rattle.shm_reader.specs.SegmentTries.{segment_lock, generation_in, record_in, act_of, given, end_of, steps_left, IsGoodLoad};
+ghost use Rattle.seqlock.specs.Tries.{started, failed_try, with_value, IsStage};
+ghost use Rattle.shm_reader.specs.SegmentTries.{segment_lock, record_in, act_of, given, end_of, steps_left, IsGoodLoad};
+ghost use Rattle.generation_word.specs.Header.{generation_in};
 
 use crate::seen::Seen;
 use clock_gate::Act;
@@ -28,7 +29,7 @@ pub struct SegmentReader {
 impl Model for SegmentReader {
     ghost use Rattle.std.specs.Prelude.{◌≤◌, ◌∷◌, take};
     ghost use Rattle.segment_layout.specs.Words.{AreGoodWords};
-    ghost use Rattle.clock_gate.specs.Tries.{SeqlockRead, IsStage};
+    ghost use Rattle.seqlock.specs.Tries.{SeqlockRead, IsStage};
     ghost use Rattle.shm_reader.specs.SegmentTries.{segment_lock, stands};
 
     ghost Value = { SeqlockRead };

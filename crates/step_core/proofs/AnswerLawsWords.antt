@@ -1,18 +1,19 @@
 -- A load fails a try by an open update at first, or by another word 1 at last: so the words show.
 use Rattle.std.proofs.Common.{◌≡◌, ℕ, ◌<◌, List, [], ◌∷◌, Option, Some, None, sym, subst, arith, inl, inr}
 use Rattle.clock_gate.specs.declared.trace.Trace.{Trace}
+use Rattle.segment_run.specs.SegmentRun.{SegmentRun}
+use Rattle.segment_run.specs.ShowsSegment.{IsSegment}
 use Rattle.interval_now.specs.declared.stage.Stage.{Stage}
 use Rattle.interval_now.specs.declared.stage.Stage.TheVariants as stages
 use Rattle.interval_now.specs.Call.{Call}
+use Rattle.abstract_run.specs.RunHost.{HostRun}
+use Rattle.abstract_run.specs.RunClient.{SegmentTry, SegmentReading, segment_reading, CallStage, Reading, Clocking, Paging, CallRun}
+use Rattle.abstract_run.specs.NextLoad.{begun_read, read_at, next_read, IsFailing}
+use Rattle.abstract_run.proofs.AnswerLawsLoad.{FailsLoad}
 use Rattle.step_core.specs.declared.marks.Marks.{Marks}
-use Rattle.step_core.specs.RunHost.{HostRun}
-use Rattle.step_core.specs.RunSegment.{SegmentRun}
-use Rattle.step_core.specs.RunClient.{SegmentTry, SegmentReading, segment_reading, CallStage, Reading, Clocking, Paging, CallRun}
-use Rattle.step_core.specs.ShowsSegment.{IsSegment, IsSegmentTryOf}
+use Rattle.step_core.specs.ShowsSegment.{IsSegmentTryOf}
 use Rattle.step_core.specs.ShowsClient.{ShowsStage, ShowsCallOf, AreTries}
-use Rattle.step_core.specs.NextLoad.{begun_read, read_at, next_read, IsFailing}
 use Rattle.step_core.proofs.SegmentLoad.{other_in_update}
-use Rattle.step_core.proofs.AnswerLawsLoad.{FailsLoad}
 
 -- for the read that the next load is for
 abbrev pub IsSharp : SegmentRun → Option SegmentReading → Type 0

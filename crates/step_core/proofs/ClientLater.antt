@@ -7,20 +7,20 @@ use Rattle.std.proofs.lemmas.List.Elements.{All-head, All-tail}
 use Rattle.clock_gate.specs.declared.trace.CallRow.{CallRow}
 use Rattle.clock_gate.specs.declared.trace.Trace.{Trace}
 use Rattle.clock_gate.specs.Trace.{IsCallRow}
+use Rattle.segment_run.specs.SegmentRun.{SegmentRun}
+use Rattle.segment_run.specs.ShowsSegment.{IsSegment, IsSegmentLater}
 use Rattle.interval_now.specs.declared.stage.Stage.{Stage}
 use Rattle.interval_now.specs.declared.stage.Stage.TheVariants as stages
 use Rattle.interval_now.specs.Call.{Call}
+use Rattle.abstract_run.specs.Run.{tries_of}
+use Rattle.abstract_run.specs.Run as run_start
+use Rattle.abstract_run.specs.RunHost.{HostRun}
+use Rattle.abstract_run.specs.RunClient.{CallStage, Reading, Clocking, Paging, CallRun, ClientRun}
 use Rattle.step_core.specs.declared.marks.Marks.{Marks}
-use Rattle.step_core.specs.Run.{tries_of}
-use Rattle.step_core.specs.Run as run_start
-use Rattle.step_core.specs.RunHost.{HostRun}
-use Rattle.step_core.specs.RunSegment.{SegmentRun}
-use Rattle.step_core.specs.RunClient.{CallStage, Reading, Clocking, Paging, CallRun, ClientRun}
 use Rattle.step_core.specs.SharedClient.{ClientState}
 use Rattle.step_core.specs.SharedClient as shared_client
-use Rattle.step_core.specs.ShowsSegment.{IsSegment}
 use Rattle.step_core.specs.ShowsClient.{ShowsStage, ShowsCallOf, AreTries, ShowsClient, ShowsClients}
-use Rattle.step_core.proofs.Later.{IsHostLater, IsSegmentLater}
+use Rattle.step_core.proofs.Later.{IsHostLater}
 use Rattle.step_core.proofs.SegmentLater.{segment_read_later}
 use Rattle.step_core.proofs.HostKeeps.{page_read_later}
 

@@ -7,13 +7,15 @@ use Rattle.clock_gate.specs.declared.act.Act.TheVariants.{Load, Store, End}
 use Rattle.clock_gate.specs.declared.clock_row.Reading.{Reading as ClockReading}
 use Rattle.clock_gate.specs.declared.trace.Trace.{Trace}
 use Rattle.clock_gate.specs.ClockRow.{reading_at}
-use Rattle.clock_gate.specs.Tries.{SeqlockRead, started}
-use Rattle.segment_layout.specs.Record.{RecordFields}
-use Rattle.shm_reader.specs.declared.seen.Seen.{Seen}
-use Rattle.shm_reader.specs.SegmentTries as segment_tries
+use Rattle.seqlock.specs.Tries.{SeqlockRead, started}
 use Rattle.vmclock_page.specs.declared.page_seen.PageSeen.{PageSeen}
 use Rattle.vmclock_page.specs.Host.{Host, count_of}
 use Rattle.vmclock_page.specs.PageRead as page_read
+use Rattle.segment_layout.specs.Record.{RecordFields}
+use Rattle.segment_run.specs.SegmentRun.{SegmentRun}
+use Rattle.segment_run.specs.ShowsSegment.{ShowsSegment}
+use Rattle.shm_reader.specs.declared.seen.Seen.{Seen}
+use Rattle.shm_reader.specs.SegmentTries as segment_tries
 use Rattle.interval_now.specs.declared.answers.Interval.{Interval}
 use Rattle.interval_now.specs.declared.answers.Causality.{Causality}
 use Rattle.interval_now.specs.declared.answers.Answer.{Answer}
@@ -22,21 +24,21 @@ use Rattle.interval_now.specs.declared.stage.Stage.TheVariants as stages
 use Rattle.interval_now.specs.Call as calls
 use Rattle.interval_now.specs.Call.{Call}
 use Rattle.interval_now.specs.Interval.{interval_of}
+use Rattle.abstract_run.specs.Run.{answer_events}
+use Rattle.abstract_run.specs.RunHost.{HostRun, clocks_at, page_shown, marker_of, sequence_of}
+use Rattle.abstract_run.specs.RunPage.{PageReading, PageAfter, Looks, Saw, Missed, page_load, is_marker_next}
+use Rattle.abstract_run.specs.RunDaemon.{marked_by}
+use Rattle.abstract_run.specs.RunClient.{SegmentTry, SegmentReading, SegmentAfter, Reads, IsWhole, Unpublished, AllFailed, segment_load, segment_reading, WholeRead, Clocked, CallStage, Reading, Clocking, Paging, CallAfter, Goes, Answers}
+use Rattle.abstract_run.specs.RunClient as run_client
+use Rattle.abstract_run.specs.RunClient.{CallRun, ClientRun}
+use Rattle.abstract_run.specs.Given.{AreRows}
 use Rattle.step_core.specs.declared.marks.Marks.{Marks}
 use Rattle.step_core.specs.declared.marks.Place.{Place}
-use Rattle.step_core.specs.Run.{answer_events}
-use Rattle.step_core.specs.RunHost.{HostRun, clocks_at, page_shown, marker_of, sequence_of}
-use Rattle.step_core.specs.RunPage.{PageReading, PageAfter, Looks, Saw, Missed, page_load, is_marker_next}
-use Rattle.step_core.specs.RunSegment.{SegmentRun}
-use Rattle.step_core.specs.RunDaemon.{marked_by}
-use Rattle.step_core.specs.RunClient.{SegmentTry, SegmentReading, SegmentAfter, Reads, IsWhole, Unpublished, AllFailed, segment_load, segment_reading, WholeRead, Clocked, CallStage, Reading, Clocking, Paging, CallAfter, Goes, Answers}
-use Rattle.step_core.specs.RunClient as run_client
-use Rattle.step_core.specs.RunClient.{CallRun, ClientRun}
 use Rattle.step_core.specs.SharedWords.{value_of}
 use Rattle.step_core.specs.SharedClient as shared_client
 use Rattle.step_core.specs.SharedClient.{ClientState, noted, noted_load, trail_of, client_turned, client_stepped, client_ready, client_act}
-use Rattle.step_core.specs.ShowsHost.{AreRows, ShowsHost, ShowsPageRead}
-use Rattle.step_core.specs.ShowsSegment.{ShowsSegment, ShowsSegmentRead}
+use Rattle.step_core.specs.ShowsHost.{ShowsHost, ShowsPageRead}
+use Rattle.step_core.specs.ShowsSegment.{ShowsSegmentRead}
 use Rattle.step_core.specs.ShowsClient.{IsFirstAt, IsReadAt, IsClockedAt, ShowsStage, ShowsCall, ShowsCallOf, AreTries, ShowsClient}
 use Rattle.step_core.proofs.Later.{ShowsSegmentAfter, ShowsPageAfter}
 use Rattle.step_core.proofs.SegmentLoad.{word_loaded, segment_act, segment_load_shows}

@@ -7,14 +7,14 @@ use Rattle.std.proofs.lemmas.List.Elements.{All-get_or}
 use Rattle.clock_gate.specs.declared.clock_row.ClockRow.{ClockRow}
 use Rattle.clock_gate.specs.declared.limits.TheConstants.{LAST_MOMENT, MOST_DRIFT}
 use Rattle.clock_gate.specs.Trace.{IsClockRow}
+use Rattle.clock_gate.specs.ClockRow.{no_row, row_at}
 use Rattle.status_machine.specs.declared.daemon.Daemon.{Daemon}
 use Rattle.status_machine.specs.declared.poll.Poll.{Poll}
 use Rattle.status_machine.specs.Incarnation.{Incarnation}
 use Rattle.status_machine.specs.Step.{daemon_step, record_of, begun}
 use Rattle.status_machine.proofs.Fits.{StartFits, daemon_step-fits, record_of-fits, begun-fits}
+use Rattle.segment_run.proofs.SegmentEnded.{KeepsBoundsOf}
 use Rattle.writer_reopen.specs.PollMachine.{DaemonFits}
-use Rattle.clock_gate.specs.ClockRow.{no_row, row_at}
-use Rattle.step_core.proofs.SegmentEnded.{KeepsBoundsOf}
 
 -- the monotonic time of any row lies before the last moment
 pub moment_most : (clock : List ClockRow) (row : ℕ) → All IsClockRow clock → (row_at clock row).mono ≤ LAST_MOMENT

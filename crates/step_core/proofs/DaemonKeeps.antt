@@ -2,26 +2,27 @@
 use Rattle.std.proofs.Common.{◌≡◌, ℕ, ◌<◌, ◌^◌, List, Option, Some, None, Ok, refl, ◌∙◌, arith}
 use Rattle.std.specs.Prelude.{slice_index}
 use Rattle.clock_gate.specs.declared.trace.Trace.{Trace}
+use Rattle.vmclock_page.specs.Host.{count_of}
 use Rattle.segment_layout.specs.declared.start.Start.{Start}
 use Rattle.segment_layout.specs.declared.start.Start.TheVariants.{Fresh, Kept, Torn}
 use Rattle.segment_layout.specs.Image.{image_of}
-use Rattle.vmclock_page.specs.Host.{count_of}
+use Rattle.segment_run.specs.SegmentRun.{SegmentRun, segment_start}
+use Rattle.segment_run.specs.ShowsSegment.{KeepsSegment}
+use Rattle.segment_run.proofs.SegmentStart.{segment_start_told}
 use Rattle.writer_reopen.specs.declared.order.Order.{Order}
 use Rattle.writer_reopen.specs.declared.stage.Stage.{Stage}
 use Rattle.writer_reopen.specs.declared.stage.Stage.TheVariants as stages
+use Rattle.abstract_run.specs.RunHost.{HostRun}
+use Rattle.abstract_run.specs.RunDaemon as run_daemon
+use Rattle.abstract_run.specs.RunDaemon.{Life, Work, Resting, Opening, Asking, Looking, Taking, Writing, DaemonRun}
 use Rattle.step_core.specs.declared.hand.Hand.{Hand}
 use Rattle.step_core.specs.declared.hand.Hand.TheVariants as hands
 use Rattle.step_core.specs.declared.marks.PollMarks.{PollMarks}
-use Rattle.step_core.specs.RunHost.{HostRun}
-use Rattle.step_core.specs.RunSegment.{SegmentRun, segment_start}
-use Rattle.step_core.specs.RunDaemon as run_daemon
-use Rattle.step_core.specs.RunDaemon.{Life, Work, Resting, Opening, Asking, Looking, Taking, Writing, DaemonRun}
 use Rattle.step_core.specs.SharedDaemon as shared_daemon
 use Rattle.step_core.specs.SharedDaemon.{DaemonState}
 use Rattle.step_core.specs.ShowsDaemon.{ShowsPoll, ShowsWork, HasMagicIn, HasMagicWhile, HasMagicFor, ShowsDaemon}
-use Rattle.step_core.proofs.Later.{IsHostLater, KeepsSegment}
+use Rattle.step_core.proofs.Later.{IsHostLater}
 use Rattle.step_core.proofs.HostKeeps.{page_read_later}
-use Rattle.step_core.proofs.SegmentStart.{segment_start_told}
 
 -- ---- a later host
 

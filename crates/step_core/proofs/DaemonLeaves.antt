@@ -4,16 +4,15 @@ use Rattle.std.specs.Prelude.{slice_index}
 use Rattle.clock_gate.specs.declared.trace.Trace.{Trace}
 use Rattle.segment_layout.specs.declared.start.Start.TheVariants.{Fresh, Kept, Torn}
 use Rattle.segment_layout.specs.declared.words.TheConstants.{MAGIC}
+use Rattle.segment_run.specs.SegmentRun.{SegmentRun, number_shown}
+use Rattle.segment_run.specs.ShowsSegment.{ShowsSegment, IsSegmentLater, KeepsRest}
 use Rattle.writer_reopen.specs.declared.order.Order.{Order}
+use Rattle.abstract_run.specs.RunHost.{HostRun}
+use Rattle.abstract_run.specs.RunDaemon as run_daemon
+use Rattle.abstract_run.specs.RunDaemon.{Life, Work, Resting, Opening, Asking, Looking, Taking, Writing, DaemonRun}
 use Rattle.step_core.specs.declared.hand.Resumed.{Resumed}
-use Rattle.step_core.specs.RunHost.{HostRun}
-use Rattle.step_core.specs.RunSegment.{SegmentRun, number_shown}
-use Rattle.step_core.specs.RunDaemon as run_daemon
-use Rattle.step_core.specs.RunDaemon.{Life, Work, Resting, Opening, Asking, Looking, Taking, Writing, DaemonRun}
 use Rattle.step_core.specs.SharedDaemon as shared_daemon
-use Rattle.step_core.specs.ShowsSegment.{ShowsSegment}
 use Rattle.step_core.specs.ShowsDaemon.{IsAlive, ShowsResumed, IsOrder, HasMagicWhile, HasMagicFor, ShowsDaemon}
-use Rattle.step_core.proofs.Later.{IsSegmentLater, KeepsRest}
 
 -- the run's turn and the turn over words come to the same, beside the words
 pub record Leaves (trace : Trace) (host : HostRun) (next : run_daemon.DaemonTurn) (turn : shared_daemon.DaemonTurn) : Type 0 where

@@ -6,32 +6,33 @@ use Rattle.clock_gate.specs.declared.act.Act.TheVariants.{Load}
 use Rattle.clock_gate.specs.declared.clock_row.Reading.{Reading}
 use Rattle.clock_gate.specs.declared.trace.Trace.{Trace}
 use Rattle.clock_gate.specs.ClockRow.{reading_at}
-use Rattle.clock_gate.specs.Tries.{SeqlockRead, Progress, Asks, Ends, started, act_of, end_of}
-use Rattle.clock_gate.proofs.Tries.{asks-first}
-use Rattle.segment_layout.specs.declared.words.TheConstants.{MAGIC}
-use Rattle.status_machine.specs.declared.daemon.Daemon.{Daemon}
+use Rattle.seqlock.specs.Tries.{SeqlockRead, Progress, Asks, Ends, started, act_of, end_of}
+use Rattle.seqlock.proofs.Tries.{asks-first}
 use Rattle.vmclock_page.specs.declared.page_seen.PageSeen.{PageSeen}
 use Rattle.vmclock_page.specs.Host.{Host, count_of}
 use Rattle.vmclock_page.specs.PageRead as page_read
+use Rattle.segment_layout.specs.declared.words.TheConstants.{MAGIC}
+use Rattle.status_machine.specs.declared.daemon.Daemon.{Daemon}
+use Rattle.segment_run.specs.SegmentRun.{SegmentRun}
+use Rattle.segment_run.specs.ShowsSegment.{ShowsSegment, IsSegmentLater}
+use Rattle.segment_run.proofs.SegmentLater.{later_same}
 use Rattle.writer_reopen.specs.declared.order.Order.{Order}
 use Rattle.writer_reopen.specs.declared.stage.Stage.TheVariants as stages
 use Rattle.writer_reopen.specs.PollMachine.{looking_by, stage_seen, stage_looked, polling_act, polling_given}
 use Rattle.writer_reopen.specs.Progress as poll_progress
+use Rattle.abstract_run.specs.RunHost.{HostRun, page_shown, marker_of, sequence_of}
+use Rattle.abstract_run.specs.RunPage.{PageReading, PageAfter, Looks, Saw, Missed, page_reading, page_load, is_marker_next}
+use Rattle.abstract_run.specs.RunDaemon.{Life, Asked, Looking, Taking, DaemonRun, poll_row, look_by, daemon_turn_by, marked_by, ask_by}
+use Rattle.abstract_run.specs.Given.{AreRows}
 use Rattle.step_core.specs.declared.hand.Polling.{Polling}
 use Rattle.step_core.specs.declared.marks.PollMarks.{PollMarks}
-use Rattle.step_core.specs.RunHost.{HostRun, page_shown, marker_of, sequence_of}
-use Rattle.step_core.specs.RunPage.{PageReading, PageAfter, Looks, Saw, Missed, page_reading, page_load, is_marker_next}
-use Rattle.step_core.specs.RunSegment.{SegmentRun}
-use Rattle.step_core.specs.RunDaemon.{Life, Asked, Looking, Taking, DaemonRun, poll_row, look_by, daemon_turn_by, marked_by, ask_by}
 use Rattle.step_core.specs.SharedWords.{after_act, value_of}
 use Rattle.step_core.specs.SharedDaemon.{DaemonState, polling_by, polling_with, polling_after, noted_clock, noted_poll}
-use Rattle.step_core.specs.ShowsHost.{AreRows, ShowsHost, ShowsPageRead}
-use Rattle.step_core.specs.ShowsSegment.{ShowsSegment}
+use Rattle.step_core.specs.ShowsHost.{ShowsHost, ShowsPageRead}
 use Rattle.step_core.specs.ShowsDaemon.{IsAlive, ShowsResumed, IsUntaken, IsMarkedAt}
-use Rattle.step_core.proofs.Later.{IsSegmentLater, ShowsPageAfter}
+use Rattle.step_core.proofs.Later.{ShowsPageAfter}
 use Rattle.step_core.proofs.HostKeeps.{page_read_new}
 use Rattle.step_core.proofs.PageLoad.{PageLoads, page_word, page_load_shows}
-use Rattle.step_core.proofs.SegmentLater.{later_same}
 use Rattle.step_core.proofs.DaemonLeaves.{Leaves, Turned, magic_while, order_same}
 
 -- ---- a poll whose reply isn't taken yet

@@ -2,25 +2,24 @@
 use Rattle.std.proofs.Common.{◌≡◌, ◌≢◌, ℕ, ◌+◌, ◌≤◌, ◌<◌, Bool, true, false, List, [], Option, Some, None, refl, ap, sym, ◌∙◌, subst, arith}
 use Rattle.std.specs.Prelude.{◌==◌, if◌then◌else◌, slice_index, slice_index_or}
 use Rattle.std.proofs.lemmas.Bool.Decides.{nat_tests}
+use Rattle.generation_word.specs.declared.layout.Layout.{Layout}
 use Rattle.clock_gate.specs.declared.act.Act.{Act}
 use Rattle.clock_gate.specs.declared.act.Act.TheVariants.{End}
 use Rattle.clock_gate.specs.declared.limits.TheConstants.{MOST_DRIFT}
 use Rattle.clock_gate.specs.declared.trace.Trace.{Trace}
-use Rattle.generation_word.specs.declared.layout.Layout.{Layout}
 use Rattle.segment_layout.specs.declared.start.Start.{Start}
+use Rattle.segment_run.specs.SegmentRun.{SegmentRun, is_old_in, opening_length, opening_effect}
+use Rattle.segment_run.specs.ShowsSegment.{ShowsSegment, IsSegmentLater}
 use Rattle.writer_reopen.specs.declared.opening.Opening.{Opening as Opened}
 use Rattle.writer_reopen.specs.Opening.{OpenerState, opening_steps, opening_act, opening_given, opening_end}
+use Rattle.abstract_run.specs.RunHost.{HostRun}
+use Rattle.abstract_run.specs.RunDaemon as run_daemon
+use Rattle.abstract_run.specs.RunDaemon.{Opening, DaemonRun, is_move, opening_ends, opening_step}
 use Rattle.step_core.specs.declared.hand.Hand.TheVariants as hands
 use Rattle.step_core.specs.declared.hand.Job.{Job}
-use Rattle.step_core.specs.RunHost.{HostRun}
-use Rattle.step_core.specs.RunSegment.{SegmentRun, is_old_in, opening_length, opening_effect}
-use Rattle.step_core.specs.RunDaemon as run_daemon
-use Rattle.step_core.specs.RunDaemon.{Opening, DaemonRun, is_move, opening_ends, opening_step}
 use Rattle.step_core.specs.SharedWords.{after_act, value_of}
 use Rattle.step_core.specs.SharedDaemon.{DaemonState, opening_by, opening_with}
-use Rattle.step_core.specs.ShowsSegment.{ShowsSegment}
 use Rattle.step_core.specs.ShowsDaemon.{IsJob, HasMagicIn, HasMagicFor}
-use Rattle.step_core.proofs.Later.{IsSegmentLater}
 use Rattle.step_core.proofs.SegmentOpen.{IsInOpening, OpeningShows, number_left, steps_are}
 use Rattle.step_core.proofs.SegmentOpening.{opening_shows}
 use Rattle.step_core.proofs.DaemonLeaves.{Leaves, Turned}

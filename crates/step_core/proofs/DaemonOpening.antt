@@ -3,11 +3,12 @@ use Rattle.std.proofs.Common.{◌≡◌, ℕ, ◌+◌, ◌%◌, ◌≤◌, ◌<�
 use Rattle.std.specs.Prelude.{◌==◌, if◌then◌else◌, slice_index, slice_index_or, is_some, unwrap_or}
 use Rattle.std.proofs.lemmas.Bool.Decides.{nat_tests}
 use Rattle.std.proofs.lemmas.List.{get_or_past, take_more}
+use Rattle.generation_word.specs.declared.layout.Layout.{Layout}
+use Rattle.generation_word.specs.declared.layout.Layout.TheVariants.{Two, Three}
+use Rattle.generation_word.specs.Header.{generation_in}
 use Rattle.clock_gate.specs.declared.act.Act.TheVariants.{End}
 use Rattle.clock_gate.specs.declared.limits.TheConstants.{MOST_DRIFT}
 use Rattle.clock_gate.specs.declared.trace.Trace.{Trace}
-use Rattle.generation_word.specs.declared.layout.Layout.{Layout}
-use Rattle.generation_word.specs.declared.layout.Layout.TheVariants.{Two, Three}
 use Rattle.segment_layout.specs.declared.start.Start.{Start}
 use Rattle.segment_layout.specs.declared.start.Start.TheVariants.{Fresh, Kept, Torn}
 use Rattle.segment_layout.specs.declared.words.TheConstants.{MAGIC}
@@ -18,19 +19,19 @@ use Rattle.segment_layout.proofs.Back.{fields_of_words-data_words}
 use Rattle.status_machine.specs.Step.{begun}
 use Rattle.status_machine.proofs.Fits.{StartFits}
 use Rattle.status_machine.proofs.LookBack.{ShowsPast-begun}
+use Rattle.segment_run.specs.SegmentRun.{SegmentRun, number_shown, is_old_in, opening_length, opening_effect, headed, opened_update}
+use Rattle.segment_run.specs.ShowsSegment.{IsSegment}
+use Rattle.segment_run.proofs.SegmentEnded.{KeepsBoundsOf}
+use Rattle.segment_run.proofs.SegmentHeader.{number_in_update, number_even, number_positive}
 use Rattle.writer_reopen.specs.declared.opening.Opening.{Opening as Opened}
-use Rattle.writer_reopen.specs.Opening.{OpenerState, generation_in, is_old, moved_to, opening_steps, opening_for, opening_of, opening_act, opening_given, opening_end}
+use Rattle.writer_reopen.specs.Opening.{OpenerState, is_old, moved_to, opening_steps, opening_for, opening_of, opening_act, opening_given, opening_end}
 use Rattle.writer_reopen.proofs.InOrder.{ended_past, end_of_asking}
 use Rattle.writer_reopen.proofs.Openings.{steps_no_end, act-of_loaded, answer_at_end}
+use Rattle.abstract_run.specs.RunHost.{HostRun}
+use Rattle.abstract_run.specs.RunDaemon.{DaemonRun, life_from, is_move, opening_ends}
 use Rattle.step_core.specs.declared.hand.Job.{Job}
-use Rattle.step_core.specs.RunHost.{HostRun}
-use Rattle.step_core.specs.RunSegment.{SegmentRun, number_shown, is_old_in, opening_length, opening_effect, headed, opened_update}
-use Rattle.step_core.specs.RunDaemon.{DaemonRun, life_from, is_move, opening_ends}
 use Rattle.step_core.specs.SharedDaemon.{DaemonState, opening_by}
-use Rattle.step_core.specs.ShowsSegment.{IsSegment}
 use Rattle.step_core.specs.ShowsDaemon.{IsWhere, IsJob, given_after, HasMagicIn}
-use Rattle.step_core.proofs.SegmentEnded.{KeepsBoundsOf}
-use Rattle.step_core.proofs.SegmentHeader.{number_in_update, number_even, number_positive}
 use Rattle.step_core.proofs.SegmentOpen.{IsInOpening, steps_for, number_left, steps_are}
 use Rattle.step_core.proofs.DaemonFits.{begun_fits}
 use Rattle.step_core.proofs.DaemonLeaves.{Leaves}

@@ -3,11 +3,12 @@ use Rattle.std.proofs.Common.{◌≡◌, ◌≢◌, ℕ, ◌+◌, ◌≤◌, ◌
 use Rattle.std.specs.Prelude.{◌==◌, if◌then◌else◌, IfSome}
 use Rattle.std.proofs.lemmas.Bool.{cases_lt, cases_eq}
 use Rattle.std.proofs.lemmas.Bool.Decides.{nat_tests}
-use Rattle.clock_gate.specs.declared.trace.Trace.{Trace}
 use Rattle.generation_word.specs.declared.layout.Layout.{Layout}
 use Rattle.generation_word.specs.Layout.{period_of}
 use Rattle.generation_word.specs.Numbering.{even_after}
+use Rattle.clock_gate.specs.declared.trace.Trace.{Trace}
 use Rattle.segment_layout.specs.declared.publication.Publication.{Publication}
+use Rattle.segment_run.specs.SegmentRun.{SegmentRun, number_shown, number_at}
 use Rattle.shm_writer.specs.Publisher.{Publishing}
 use Rattle.writer_reopen.specs.declared.order.Order.{Order}
 use Rattle.writer_reopen.specs.declared.polled.Polled.{Polled}
@@ -18,13 +19,12 @@ use Rattle.writer_reopen.specs.Poll.{storing_of}
 use Rattle.writer_reopen.specs.PollMachine.{IsUpdate}
 use Rattle.writer_reopen.specs.Progress.{end_of}
 use Rattle.writer_reopen.proofs.Cut.{end_published, end_stopped, end_past_ten}
+use Rattle.abstract_run.specs.declared.event.Event.TheVariants as events
+use Rattle.abstract_run.specs.RunHost.{HostRun}
+use Rattle.abstract_run.specs.RunDaemon.{Storing, Resting, Writing, DaemonRun, poll_row, is_stop, stops, published, publication_ends, after_stores}
 use Rattle.step_core.specs.declared.hand.Polling.{Polling}
 use Rattle.step_core.specs.declared.hand.Hand.TheVariants as hands
 use Rattle.step_core.specs.declared.marks.PollMarks.{PollMarks}
-use Rattle.step_core.specs.declared.event.Event.TheVariants as events
-use Rattle.step_core.specs.RunHost.{HostRun}
-use Rattle.step_core.specs.RunSegment.{SegmentRun, number_shown, number_at}
-use Rattle.step_core.specs.RunDaemon.{Storing, Resting, Writing, DaemonRun, poll_row, is_stop, stops, published, publication_ends, after_stores}
 use Rattle.step_core.specs.SharedDaemon as shared_daemon
 use Rattle.step_core.specs.SharedDaemon.{DaemonState, stops_at_last, resumed_unless, stop_told, polling_by, polling_with}
 use Rattle.step_core.specs.ShowsDaemon.{IsAlive, IsOrder, IsStoring, IsMarkedAt}

@@ -2,30 +2,29 @@
 use Rattle.std.proofs.Common.{◌≡◌, ◌≢◌, ℕ, zero, suc, ◌+◌, ◌≤◌, ◌<◌, Bool, true, false, List, [], ◌∷◌, Option, Some, None, refl, ap, sym, ◌∙◌, subst, arith}
 use Rattle.std.specs.Prelude.{◌==◌, if◌then◌else◌, slice_index, slice_index_or, IfSome}
 use Rattle.std.proofs.lemmas.Bool.Decides.{nat_tests}
-use Rattle.clock_gate.specs.declared.act.Act.{Act}
-use Rattle.clock_gate.specs.declared.act.Act.TheVariants.{End}
-use Rattle.clock_gate.specs.declared.trace.Trace.{Trace}
 use Rattle.generation_word.specs.declared.layout.Layout.{Layout}
 use Rattle.generation_word.specs.Layout.{period_of}
 use Rattle.generation_word.specs.Numbering.{even_after}
+use Rattle.clock_gate.specs.declared.act.Act.{Act}
+use Rattle.clock_gate.specs.declared.act.Act.TheVariants.{End}
+use Rattle.clock_gate.specs.declared.trace.Trace.{Trace}
 use Rattle.segment_layout.specs.declared.publication.Publication.{Publication}
 use Rattle.segment_layout.specs.declared.words.TheConstants.{MAGIC}
 use Rattle.segment_layout.specs.Record.{RecordFields}
+use Rattle.segment_run.specs.SegmentRun.{SegmentRun, number_at, stored_by, stored}
+use Rattle.segment_run.specs.ShowsSegment.{ShowsSegment, IsSegmentLater, KeepsRest}
 use Rattle.shm_writer.specs.Publisher.{stores}
 use Rattle.writer_reopen.specs.declared.order.Order.{Order}
 use Rattle.writer_reopen.specs.declared.stage.Taken.{Taken}
 use Rattle.writer_reopen.specs.PollMachine.{IsUpdate, polling_act}
 use Rattle.writer_reopen.proofs.Cut.{act_before_stop}
+use Rattle.abstract_run.specs.declared.event.Event.TheVariants as events
+use Rattle.abstract_run.specs.RunHost.{HostRun}
+use Rattle.abstract_run.specs.RunDaemon.{Storing, Resting, Writing, DaemonRun, poll_row, is_stop, stops, published, after_stores, store_step}
 use Rattle.step_core.specs.declared.marks.PollMarks.{PollMarks}
-use Rattle.step_core.specs.declared.event.Event.TheVariants as events
-use Rattle.step_core.specs.RunHost.{HostRun}
-use Rattle.step_core.specs.RunSegment.{SegmentRun, number_at, stored_by, stored}
-use Rattle.step_core.specs.RunDaemon.{Storing, Resting, Writing, DaemonRun, poll_row, is_stop, stops, published, after_stores, store_step}
 use Rattle.step_core.specs.SharedWords.{after_act}
 use Rattle.step_core.specs.SharedDaemon.{DaemonState, polling_with, polling_after, noted_poll}
-use Rattle.step_core.specs.ShowsSegment.{ShowsSegment}
 use Rattle.step_core.specs.ShowsDaemon.{IsStoring, IsMarkedAt}
-use Rattle.step_core.proofs.Later.{IsSegmentLater, KeepsRest}
 use Rattle.step_core.proofs.SegmentStore.{IsInStores, StoreShows, store_at, store_shows}
 use Rattle.step_core.proofs.DaemonLeaves.{Leaves, Turned, magic_while}
 use Rattle.step_core.proofs.DaemonStore.{in_stores, IsMade, after_stores_shows}

@@ -1,15 +1,15 @@
 -- The second load of the clock: the reply is taken, and the publication is that of looking back.
 use Rattle.std.proofs.Common.{◌≡◌, ℕ, ◌+◌, ◌≤◌, Bool, true, false, List, ◌∷◌, Option, Some, None, refl, ap, sym, ◌∙◌, subst, arith}
 use Rattle.std.specs.Prelude.{slice_index, is_some, IfSome, All}
+use Rattle.generation_word.specs.declared.layout.Layout.{Layout}
+use Rattle.generation_word.specs.Layout.{period_of}
+use Rattle.generation_word.specs.Numbering.{odd_after, even_after}
+use Rattle.generation_word.proofs.Laws.{odd_after-at_rest, odd_after-in_update, even_after-at_rest, even_after-in_update}
 use Rattle.clock_gate.specs.declared.clock_row.Reading.{Reading}
 use Rattle.clock_gate.specs.declared.limits.TheConstants.{LAST_MOMENT}
 use Rattle.clock_gate.specs.declared.trace.Trace.{Trace}
 use Rattle.clock_gate.specs.ClockRow.{reading_at}
 use Rattle.clock_gate.specs.Trace.{IsClockRow}
-use Rattle.generation_word.specs.declared.layout.Layout.{Layout}
-use Rattle.generation_word.specs.Layout.{period_of}
-use Rattle.generation_word.specs.Numbering.{odd_after, even_after}
-use Rattle.generation_word.proofs.Laws.{odd_after-at_rest, odd_after-in_update, even_after-at_rest, even_after-in_update}
 use Rattle.segment_layout.specs.declared.publication.Publication.{Publication}
 use Rattle.segment_layout.specs.declared.words.TheConstants.{MAGIC}
 use Rattle.segment_layout.specs.Record.{RecordFields}
@@ -19,23 +19,22 @@ use Rattle.status_machine.specs.declared.poll.Poll.{Poll}
 use Rattle.status_machine.specs.Incarnation.{base_at, record_at}
 use Rattle.status_machine.specs.Step.{ShowsPast, daemon_step, record_of}
 use Rattle.status_machine.proofs.LookBack.{ShowsPast-step, record_of-shown}
+use Rattle.segment_run.specs.SegmentRun.{SegmentRun, number_shown, number_at}
+use Rattle.segment_run.specs.ShowsSegment.{ShowsSegment, IsSegmentLater}
+use Rattle.segment_run.proofs.SegmentEnded.{KeepsBoundsOf}
+use Rattle.segment_run.proofs.SegmentHeader.{number_at_rest, number_in_update, period_positive}
+use Rattle.segment_run.proofs.SegmentLater.{later_same}
 use Rattle.writer_reopen.specs.declared.order.Order.{Order}
 use Rattle.writer_reopen.specs.declared.stage.Sight.{Sight}
 use Rattle.writer_reopen.specs.declared.stage.Stage.TheVariants as stages
 use Rattle.writer_reopen.specs.Poll as poll_specs
 use Rattle.writer_reopen.specs.Poll.{marker_seen, sequence_seen, poll_for, daemon_for, publication_for, taken_for}
+use Rattle.abstract_run.specs.RunHost.{HostRun}
+use Rattle.abstract_run.specs.RunDaemon.{Life, Asked, Storing, DaemonRun, poll_row, poll_of, base_number, publication_of, taken}
 use Rattle.step_core.specs.declared.hand.Polling.{Polling}
 use Rattle.step_core.specs.declared.marks.PollMarks.{PollMarks}
-use Rattle.step_core.specs.RunHost.{HostRun}
-use Rattle.step_core.specs.RunSegment.{SegmentRun, number_shown, number_at}
-use Rattle.step_core.specs.RunDaemon.{Life, Asked, Storing, DaemonRun, poll_row, poll_of, base_number, publication_of, taken}
 use Rattle.step_core.specs.SharedDaemon.{DaemonState, polling_with, polling_after, noted_clock}
-use Rattle.step_core.specs.ShowsSegment.{ShowsSegment}
 use Rattle.step_core.specs.ShowsDaemon.{IsWhere, IsAlive, IsOrder, IsMarkedAt}
-use Rattle.step_core.proofs.Later.{IsSegmentLater}
-use Rattle.step_core.proofs.SegmentEnded.{KeepsBoundsOf}
-use Rattle.step_core.proofs.SegmentHeader.{number_at_rest, number_in_update, period_positive}
-use Rattle.step_core.proofs.SegmentLater.{later_same}
 use Rattle.step_core.proofs.DaemonFits.{moment_most, step_fits, record_bounds}
 use Rattle.step_core.proofs.DaemonLeaves.{Leaves, Turned, magic_while, order_same}
 use Rattle.step_core.proofs.DaemonStore.{IsMade, after_stores_shows}

@@ -2,18 +2,21 @@
 use Rattle.std.proofs.Common.{◌≡◌, ℕ, ◌+◌, ◌-◌, Bool, false, List, [], Option, Some, None, length, refl, ap, sym, ◌∙◌, subst, arith}
 use Rattle.std.specs.Prelude.{slice_get, slice_index, slice_index_or}
 use Rattle.std.proofs.lemmas.Option.{get_or_from_slice_get}
+use Rattle.generation_word.specs.declared.layout.Layout.{Layout}
 use Rattle.clock_gate.specs.declared.clock_row.Reading.{Reading}
 use Rattle.clock_gate.specs.declared.trace.PollRow.{PollRow}
 use Rattle.clock_gate.specs.declared.trace.Trace.{Trace}
 use Rattle.clock_gate.specs.Trace.{IsLawfulTrace}
-use Rattle.clock_gate.specs.Tries.{SeqlockRead}
-use Rattle.generation_word.specs.declared.layout.Layout.{Layout}
+use Rattle.seqlock.specs.Tries.{SeqlockRead}
+use Rattle.vmclock_page.specs.Host.{Host}
 use Rattle.segment_layout.specs.declared.start.Start.{Start}
 use Rattle.segment_layout.specs.declared.words.TheConstants.{MAGIC}
-use Rattle.shm_writer.specs.Publisher.{Publishing}
 use Rattle.status_machine.specs.declared.daemon.Daemon.{Daemon}
 use Rattle.status_machine.specs.Poll.{heard_of}
-use Rattle.vmclock_page.specs.Host.{Host}
+use Rattle.segment_run.specs.SegmentRun.{SegmentRun, header_shown, is_old_in, is_old, start_found}
+use Rattle.segment_run.specs.ShowsSegment.{ShowsSegment}
+use Rattle.segment_run.proofs.SegmentLater.{later_same}
+use Rattle.shm_writer.specs.Publisher.{Publishing}
 use Rattle.writer_reopen.specs.declared.order.Order.{Order}
 use Rattle.writer_reopen.specs.declared.stage.Sight.{Sight}
 use Rattle.writer_reopen.specs.declared.stage.Stage.{Stage}
@@ -21,24 +24,22 @@ use Rattle.writer_reopen.specs.declared.stage.Stage.TheVariants as stages
 use Rattle.writer_reopen.specs.declared.stage.Taken.{Taken}
 use Rattle.writer_reopen.specs.Opening.{OpenerState, opening_act}
 use Rattle.writer_reopen.specs.PollMachine.{polling_act}
+use Rattle.abstract_run.specs.RunHost.{HostRun}
+use Rattle.abstract_run.specs.RunPage.{PageReading}
+use Rattle.abstract_run.specs.RunDaemon.{Life, Asked, Storing, Work, Resting, Opening, Asking, Looking, Taking, Writing, DaemonRun, no_poll, poll_row, poll_of, ask_by, taken, opening_step, poll_begins, next_poll, daemon_turn_by, daemon_turn}
+use Rattle.abstract_run.specs.Given.{AreRows}
 use Rattle.step_core.specs.declared.hand.Hand.{Hand}
 use Rattle.step_core.specs.declared.hand.Hand.TheVariants as hands
 use Rattle.step_core.specs.declared.hand.Job.{Job}
 use Rattle.step_core.specs.declared.hand.Polling.{Polling}
 use Rattle.step_core.specs.declared.hand.Resumed.{Resumed}
 use Rattle.step_core.specs.declared.marks.PollMarks.{PollMarks}
-use Rattle.step_core.specs.RunHost.{HostRun}
-use Rattle.step_core.specs.RunPage.{PageReading}
-use Rattle.step_core.specs.RunSegment.{SegmentRun, header_shown, is_old_in, is_old, start_found}
-use Rattle.step_core.specs.RunDaemon.{Life, Asked, Storing, Work, Resting, Opening, Asking, Looking, Taking, Writing, DaemonRun, no_poll, poll_row, poll_of, ask_by, taken, opening_step, poll_begins, next_poll, daemon_turn_by, daemon_turn}
 use Rattle.step_core.specs.SharedWords.{after_act, value_of}
 use Rattle.step_core.specs.SharedDaemon.{DaemonState, job_of, no_poll_marks, polling_for, hand_for, daemon_takes, daemon_ready_by, daemon_ready, hand_act, daemon_act, polling_with, polling_after, resting, daemon_after_by, daemon_after}
-use Rattle.step_core.specs.ShowsHost.{AreRows, ShowsHost}
-use Rattle.step_core.specs.ShowsSegment.{ShowsSegment}
+use Rattle.step_core.specs.ShowsHost.{ShowsHost}
 use Rattle.step_core.specs.ShowsDaemon.{IsAlive, ShowsResumed, IsJob, ShowsOpening, IsOrder, ShowsPoll, ShowsWork, ShowsIdle, ShowsDaemon, HasMagicIn, HasMagicWhile, HasMagicFor}
 use Rattle.step_core.proofs.SegmentOpen.{IsInOpening}
 use Rattle.step_core.proofs.SegmentOpening.{opening_shows, opening_begins, magic_begins}
-use Rattle.step_core.proofs.SegmentLater.{later_same}
 use Rattle.step_core.proofs.DaemonLeaves.{Turned}
 use Rattle.step_core.proofs.DaemonStore.{in_stores}
 use Rattle.step_core.proofs.DaemonStoring.{store_turned}

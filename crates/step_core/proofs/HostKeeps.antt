@@ -3,14 +3,16 @@
 use Rattle.std.proofs.Common.{◌≡◌, ℕ, ◌+◌, ◌*◌, ◌≤◌, ◌<◌, Bool, true, false, List, [], ◌∷◌, length, Option, Some, None, refl, ◌∙◌, subst, arith}
 use Rattle.std.specs.Prelude.{slice_index}
 use Rattle.clock_gate.specs.declared.trace.HostRow.{HostRow}
-use Rattle.clock_gate.specs.Tries.{SeqlockRead, started}
-use Rattle.segment_layout.specs.Words.{flag_of}
+use Rattle.seqlock.specs.Tries.{SeqlockRead, started}
 use Rattle.vmclock_page.specs.Host.{Host}
-use Rattle.step_core.specs.RunHost.{HostRun, PageShown, clocks_at, pages_at, page_shown}
-use Rattle.step_core.specs.RunPage.{PageReading, PageTry, page_reading}
-use Rattle.step_core.specs.ShowsHost.{AreRows, ShowsHost, InHand, IsPageTry, IsPageTryOf, ShowsPageRead}
-use Rattle.step_core.proofs.Later.{IsHostLater, KeepsRest, page_point}
-use Rattle.step_core.proofs.RowCounts.{clocks_most, clocks_some}
+use Rattle.segment_layout.specs.Words.{flag_of}
+use Rattle.segment_run.specs.ShowsSegment.{KeepsRest}
+use Rattle.abstract_run.specs.RunHost.{HostRun, PageShown, clocks_at, pages_at, page_shown}
+use Rattle.abstract_run.specs.RunPage.{PageReading, PageTry, page_reading}
+use Rattle.abstract_run.specs.Given.{AreRows}
+use Rattle.abstract_run.proofs.RowCounts.{clocks_most, clocks_some}
+use Rattle.step_core.specs.ShowsHost.{ShowsHost, InHand, IsPageTry, IsPageTryOf, ShowsPageRead}
+use Rattle.step_core.proofs.Later.{IsHostLater, page_point}
 use Rattle.step_core.proofs.HostTurn.{page_kept}
 
 -- ---- a step of another party

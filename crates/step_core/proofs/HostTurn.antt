@@ -15,12 +15,14 @@ use Rattle.clock_gate.specs.declared.trace.HostRow.TheVariants.{Clock, Page, Dis
 use Rattle.vmclock_page.specs.Words.{word_with_count}
 use Rattle.vmclock_page.specs.Rows.{IsRowOf, ArePageRows}
 use Rattle.vmclock_page.specs.Host.{Host, begun, act_of, given, constants_of, count_of, raised, page_stores}
-use Rattle.step_core.specs.RunHost.{HostRun, clocks_at, pages_at, pages_of, sequence_of, row_turn, host_turn}
+use Rattle.segment_run.specs.ShowsSegment.{KeepsSegment}
+use Rattle.abstract_run.specs.RunHost.{HostRun, clocks_at, pages_at, pages_of, sequence_of, row_turn, host_turn}
+use Rattle.abstract_run.specs.Given.{AreRows}
+use Rattle.abstract_run.proofs.RowCounts.{clocks_more, clocks_page, clocks_disrupt, next_clock, pages_clock, pages_more, pages_disrupt, next_page}
 use Rattle.step_core.specs.SharedWords.{after_act, if_ended}
 use Rattle.step_core.specs.SharedHost.{HostState, host_ready, host_takes, host_act, host_after}
-use Rattle.step_core.specs.ShowsHost.{AreRows, ShowsHost, HasPage, HasPageOf, count_word}
-use Rattle.step_core.proofs.Later.{IsHostLater, KeepsSegment}
-use Rattle.step_core.proofs.RowCounts.{clocks_more, clocks_page, clocks_disrupt, next_clock, pages_clock, pages_more, pages_disrupt, next_page}
+use Rattle.step_core.specs.ShowsHost.{ShowsHost, HasPage, HasPageOf, count_word}
+use Rattle.step_core.proofs.Later.{IsHostLater}
 
 -- the host after a turn, and the words: they show it, the segment stays, and no position falls
 pub record HostTurned (start : Option (List ℕ)) (rows : List HostRow) (old new : HostRun) (words : List ℕ) (ready : HostState) : Type 0 where

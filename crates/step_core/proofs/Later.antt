@@ -1,20 +1,18 @@
 -- What a step of one party leaves of what the others have in hand: a later host, and a later segment. And the statements that the
 -- steps of a read are proved in.
-use Rattle.std.specs.Prelude.{◌≡◌, ℕ, ◌+◌, ◌*◌, ◌<◌, ◌≤◌, false, List, ◌++◌, slice_index, Option, Some, None}
+use Rattle.std.specs.Prelude.{◌≡◌, ℕ, ◌+◌, ◌*◌, ◌≤◌, false, List, Option, Some, None}
 use Rattle.clock_gate.specs.declared.trace.HostRow.{HostRow}
-use Rattle.clock_gate.specs.Tries.{SeqlockRead}
-use Rattle.segment_layout.specs.Words.{flag_of}
-use Rattle.segment_layout.specs.declared.publication.Publication.{Publication}
-use Rattle.segment_layout.specs.History.{point}
-use Rattle.shm_reader.specs.declared.seen.Seen.TheVariants as seen
-use Rattle.shm_reader.specs.SegmentTries as segment_tries
+use Rattle.seqlock.specs.Tries.{SeqlockRead}
 use Rattle.vmclock_page.specs.Host.{count_of}
 use Rattle.vmclock_page.specs.PageRead as page_read
 use Rattle.vmclock_page.specs.declared.page_seen.PageSeen.TheVariants as page_seen
-use Rattle.step_core.specs.RunHost.{HostRun, PageShown, page_shown, marker_of, sequence_of}
-use Rattle.step_core.specs.RunPage.{PageAfter, Looks, Saw, Missed}
-use Rattle.step_core.specs.RunSegment.{SegmentRun, abstract_of, header_shown}
-use Rattle.step_core.specs.RunClient.{SegmentAfter, Reads, IsWhole, Unpublished, AllFailed}
+use Rattle.segment_layout.specs.Words.{flag_of}
+use Rattle.segment_run.specs.SegmentRun.{SegmentRun}
+use Rattle.shm_reader.specs.declared.seen.Seen.TheVariants as seen
+use Rattle.shm_reader.specs.SegmentTries as segment_tries
+use Rattle.abstract_run.specs.RunHost.{HostRun, PageShown, page_shown, marker_of, sequence_of}
+use Rattle.abstract_run.specs.RunPage.{PageAfter, Looks, Saw, Missed}
+use Rattle.abstract_run.specs.RunClient.{SegmentAfter, Reads, IsWhole, Unpublished, AllFailed}
 use Rattle.step_core.specs.ShowsHost.{ShowsPageRead}
 use Rattle.step_core.specs.ShowsSegment.{ShowsSegmentRead}
 
@@ -26,23 +24,6 @@ page_point shown = 2 * shown.page + flag_of shown.is_writing
 pub record IsHostLater (rows : List HostRow) (old new : HostRun) : Type 0 where
   pub done : old.done ≤ new.done
   pub pages : page_point (page_shown rows old) ≤ page_point (page_shown rows new)
-
--- a segment that is the same or later
-pub record IsSegmentLater (old new : SegmentRun) : Type 0 where
-  pub layout : new.layout ≡ old.layout
-  pub image : new.image ≡ old.image
-  pub base : new.base ≡ old.base
-  pub point : point (abstract_of old) ≤ point (abstract_of new)
-  pub more : List Publication
-  pub history : new.history ≡ old.history ++ more
-  pub header : new.position ≡ old.position → new.is_writing ≡ false → 0 < new.position → header_shown new ≡ header_shown old
-
--- words 0 to 9, and words 10 to 23, are left by a step
-pub record KeepsSegment (words after : List ℕ) : Type 0 where
-  pub same : (word : ℕ) → word < 10 → slice_index after word ≡ slice_index words word
-
-pub record KeepsRest (words after : List ℕ) : Type 0 where
-  pub same : (word : ℕ) → 10 ≤ word → word < 24 → slice_index after word ≡ slice_index words word
 
 -- what a load of the page leaves in the run, the page reader shows after it
 abbrev pub ShowsPageAfter : Option (List ℕ) → List HostRow → HostRun → ℕ → PageAfter → SeqlockRead → Type 0

@@ -4,30 +4,29 @@ use Rattle.std.specs.Prelude.{◌==◌, if◌then◌else◌, slice_index, slice_
 use Rattle.std.proofs.lemmas.Bool.{cases_lt}
 use Rattle.std.proofs.lemmas.Bool.Decides.{nat_tests}
 use Rattle.std.proofs.lemmas.List.{get_or-set_same, get_or-set_other, length-set}
-use Rattle.clock_gate.specs.declared.act.Act.{Act}
-use Rattle.clock_gate.specs.declared.act.Act.TheVariants.{Load, Store}
 use Rattle.generation_word.specs.declared.layout.Layout.{Layout}
 use Rattle.generation_word.specs.declared.layout.Layout.TheVariants.{Two, Three}
 use Rattle.generation_word.specs.Layout.{period_of}
 use Rattle.generation_word.specs.Numbering.{odd_after, even_after}
-use Rattle.generation_word.specs.Header.{word1_of}
+use Rattle.generation_word.specs.Header.{word1_of, generation_in}
 use Rattle.generation_word.proofs.Laws.{odd_after-at_rest, even_after-at_rest}
+use Rattle.clock_gate.specs.declared.act.Act.{Act}
+use Rattle.clock_gate.specs.declared.act.Act.TheVariants.{Load, Store}
 use Rattle.segment_layout.specs.declared.words.TheConstants.{MAGIC}
 use Rattle.segment_layout.specs.declared.start.Start.{Start}
 use Rattle.segment_layout.specs.declared.start.Start.TheVariants.{Fresh, Kept, Torn}
 use Rattle.segment_layout.specs.Image.{generation_of_start}
 use Rattle.segment_layout.specs.Record.{RecordFields}
 use Rattle.segment_layout.specs.Words.{record_words}
-use Rattle.writer_reopen.specs.Opening.{generation_in, is_old, fresh_steps, torn_steps, kept_steps, later_steps, opening_steps}
-use Rattle.step_core.specs.RunSegment.{SegmentRun, header_shown, number_at, number_shown, published_at, is_old_in, opening_length, headed, opened_update, moved_once}
+use Rattle.segment_run.specs.SegmentRun.{SegmentRun, header_shown, number_at, number_shown, published_at, is_old_in, opening_length, headed, opened_update, moved_once}
+use Rattle.segment_run.specs.ShowsSegment.{HoldsWords, ShowsSegment, IsSegmentLater, KeepsRest}
+use Rattle.segment_run.proofs.SegmentHeader.{number_at_rest, number_in_update, number_even, number_positive, period_positive}
+use Rattle.segment_run.proofs.SegmentLater.{later_same}
+use Rattle.segment_run.proofs.SegmentEnded.{headed_is, headed_later, in_update_is, in_update_later, after_update_is, after_update_later, after_update_number, after_update_header}
+use Rattle.segment_run.proofs.SegmentStore.{rest_kept, header_stored}
+use Rattle.writer_reopen.specs.Opening.{is_old, fresh_steps, torn_steps, kept_steps, later_steps, opening_steps}
 use Rattle.step_core.specs.SharedWords.{after_act, value_of}
-use Rattle.step_core.specs.ShowsSegment.{HoldsWords, ShowsSegment}
 use Rattle.step_core.specs.ShowsDaemon.{given_after, StandsIn, HasMagicIn}
-use Rattle.step_core.proofs.Later.{IsSegmentLater, KeepsRest}
-use Rattle.step_core.proofs.SegmentHeader.{number_at_rest, number_in_update, number_even, number_positive, period_positive}
-use Rattle.step_core.proofs.SegmentLater.{later_same}
-use Rattle.step_core.proofs.SegmentEnded.{headed_is, headed_later, in_update_is, in_update_later, after_update_is, after_update_later, after_update_number, after_update_header}
-use Rattle.step_core.proofs.SegmentStore.{rest_kept, header_stored}
 
 -- ---- where an opening stands
 

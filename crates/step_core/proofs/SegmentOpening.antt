@@ -1,23 +1,23 @@
 -- An opening, step by step: where it begins, and what each of its steps leaves.
-use Rattle.std.proofs.Common.{◌≡◌, ◌≢◌, ℕ, zero, suc, ◌<◌, ◌≤◌, Bool, true, false, List, ◌∷◌, refl, ap, sym, ◌∙◌, subst, arith, inl, inr}
+use Rattle.std.proofs.Common.{◌≡◌, ℕ, zero, suc, ◌<◌, ◌≤◌, Bool, true, false, List, ◌∷◌, refl, ap, sym, ◌∙◌, subst, arith, inl, inr}
 use Rattle.std.specs.Prelude.{◌⊎◌, ◌==◌, ◌&&◌, not, if◌then◌else◌, slice_index, slice_index_or}
 use Rattle.std.proofs.lemmas.Bool.{cases_lt}
 use Rattle.std.proofs.lemmas.Bool.Decides.{nat_tests}
-use Rattle.clock_gate.specs.declared.act.Act.{Act}
-use Rattle.clock_gate.specs.declared.act.Act.TheVariants.{Load, End}
 use Rattle.generation_word.specs.declared.layout.Layout.{Layout}
 use Rattle.generation_word.specs.declared.layout.Layout.TheVariants.{Two, Three}
-use Rattle.generation_word.specs.Header.{word1_of}
+use Rattle.generation_word.specs.Header.{word1_of, generation_in}
+use Rattle.clock_gate.specs.declared.act.Act.{Act}
+use Rattle.clock_gate.specs.declared.act.Act.TheVariants.{Load, End}
 use Rattle.segment_layout.specs.declared.words.TheConstants.{MAGIC}
 use Rattle.segment_layout.specs.declared.start.Start.{Start}
 use Rattle.segment_layout.specs.declared.start.Start.TheVariants.{Fresh, Kept, Torn}
 use Rattle.segment_layout.specs.Image.{generation_of_start}
 use Rattle.segment_layout.specs.Record.{RecordFields}
-use Rattle.writer_reopen.specs.Opening.{generation_in, move_steps, opening_steps}
-use Rattle.step_core.specs.RunSegment.{SegmentRun, header_shown, number_shown, published_at, is_old_in, is_old, start_found, opening_length, opened_update, moved_once, opening_effect}
-use Rattle.step_core.specs.ShowsSegment.{IsSegment, ShowsSegment}
+use Rattle.segment_run.specs.SegmentRun.{SegmentRun, header_shown, number_shown, published_at, is_old_in, is_old, start_found, opening_length, opened_update, moved_once, opening_effect}
+use Rattle.segment_run.specs.ShowsSegment.{IsSegment, ShowsSegment}
+use Rattle.segment_run.proofs.SegmentHeader.{told_three, number_told, number_at_rest, magic_of_header}
+use Rattle.writer_reopen.specs.Opening.{move_steps, opening_steps}
 use Rattle.step_core.specs.ShowsDaemon.{StandsIn, HasMagicIn}
-use Rattle.step_core.proofs.SegmentHeader.{told_three, number_told, number_at_rest}
 use Rattle.step_core.proofs.SegmentOpen.{IsInOpening, OpeningShows, steps_for, steps_are, fresh_load, fresh_magic, fresh_header, torn_load, torn_header, kept_load, move_begins, move_ends}
 
 -- ---- a step
@@ -170,13 +170,6 @@ opening_begins segment is =
       unchanged = λ below. refl;
       unheaded = λ is_it below. unheaded_by segment.is_headed (is_old_in segment.layout (slice_index segment.image 1)) is_it;
     }
-
--- word 0 is the magic where word 1 is not 0
-pub magic_of_header : (segment : SegmentRun) (words : List ℕ) → ShowsSegment segment words → header_shown segment ≢ 0 → slice_index words 0 ≡ MAGIC
-magic_of_header segment words shows some = magic_by (slice_index words 0) (slice_index words 1) (λ none. some (sym shows.header ∙ none)) shows.magic where
-  magic_by : (first header : ℕ) → header ≢ 0 → (first ≡ MAGIC) ⊎ ((first ≡ 0) × (header ≡ 0)) → first ≡ MAGIC
-  magic_by first header not_zero (inl is) = is
-  magic_by first header not_zero (inr none) = absurd (not_zero none.1)
 
 found_magic_by : (segment : SegmentRun) (words : List ℕ) (writes none : Bool) → ShowsSegment segment words → segment.is_writing ≡ writes → (segment.position == 0) ≡ none
     → HasMagicIn (if writes then Torn (number_shown segment) else if none then Fresh else Kept (number_shown segment) (published_at segment segment.position).rec) 0 words

@@ -1,9 +1,10 @@
 -- Where a read of the segment stands among the publications: the position at its first load, and how many ended inside.
 use Rattle.std.proofs.Common.{◌≡◌, ℕ, ◌+◌, ◌-◌, ◌≤◌, true, false, Option, Some, None, refl, arith, length}
 use Rattle.std.specs.Prelude.{◌==◌, ◌||◌, not, nat_lt, nat_le, if◌then◌else◌, Bool}
-use Rattle.step_core.specs.RunSegment.{SegmentRun, header_shown, number_shown, number_at}
-use Rattle.step_core.specs.RunClient.{SegmentTry, SegmentReading, SegmentAfter, Reads, IsWhole, Unpublished, AllFailed, segment_try_fails, segment_last_load, segment_load_by, segment_load}
-use Rattle.step_core.proofs.SegmentLoad.{word_loaded, begun_try, longer_try, whole_read}
+use Rattle.segment_run.specs.SegmentRun.{SegmentRun, header_shown, number_shown, number_at}
+use Rattle.abstract_run.specs.RunClient.{SegmentTry, SegmentReading, SegmentAfter, Reads, IsWhole, Unpublished, AllFailed, segment_try_fails, segment_last_load, segment_load_by, segment_load}
+use Rattle.abstract_run.proofs.SegmentReads.{begun_try, longer_try, whole_read}
+use Rattle.step_core.proofs.SegmentLoad.{word_loaded}
 
 -- the try in hand after a load: one that this load of word 1 began, at the segment's position, or the one before with a data word more
 abbrev pub IsTryFrom : SegmentRun → (before after : Option SegmentTry) → Type 0

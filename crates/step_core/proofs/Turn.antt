@@ -2,26 +2,29 @@
 use Rattle.std.proofs.Common.{◌≡◌, ℕ, zero, suc, ◌+◌, ◌-◌, ◌<◌, List, [], ◌∷◌, ◌++◌, length, Option, Some, None, Result, Ok, Err, refl, ap, sym, ◌∙◌, subst, arith}
 use Rattle.std.specs.Prelude.{slice_get, IsOk}
 use Rattle.std.proofs.lemmas.List.{get_or_append_left}
+use Rattle.generation_word.specs.declared.layout.Layout.{Layout}
 use Rattle.clock_gate.specs.declared.trace.Party.{Party}
 use Rattle.clock_gate.specs.declared.trace.Party.TheVariants.{Host, Daemon, Client}
 use Rattle.clock_gate.specs.declared.trace.Trace.{Trace}
 use Rattle.clock_gate.specs.Trace.{IsLawfulTrace}
-use Rattle.generation_word.specs.declared.layout.Layout.{Layout}
+use Rattle.vmclock_page.specs.Host.{count_of}
 use Rattle.segment_layout.specs.declared.start.Start.{Start}
 use Rattle.segment_layout.specs.declared.start.Start.TheVariants.{Fresh, Kept, Torn}
 use Rattle.segment_layout.specs.declared.image_fault.ImageFault.{ImageFault}
 use Rattle.segment_layout.specs.Image.{image_of, start_of}
-use Rattle.vmclock_page.specs.Host.{count_of}
-use Rattle.step_core.specs.declared.event.Event.{Event}
+use Rattle.segment_run.specs.SegmentRun.{segment_by, segment_start}
+use Rattle.segment_run.proofs.SegmentLater.{later_same, segment_keeps}
+use Rattle.segment_run.proofs.SegmentStart.{segment_start_shows}
+use Rattle.abstract_run.specs.declared.event.Event.{Event}
+use Rattle.abstract_run.specs.Run as runs
+use Rattle.abstract_run.specs.Run.{Run, turn, start}
+use Rattle.abstract_run.specs.RunHost.{HostRun, host_start, host_turn}
+use Rattle.abstract_run.specs.RunDaemon as run_daemon
+use Rattle.abstract_run.specs.RunDaemon.{daemon_turn}
+use Rattle.abstract_run.specs.RunClient as run_client
+use Rattle.abstract_run.specs.RunClient.{ClientRun}
+use Rattle.abstract_run.specs.Given.{IsGiven, AreRows}
 use Rattle.step_core.specs.declared.marks.Place.{Place}
-use Rattle.step_core.specs.Run as runs
-use Rattle.step_core.specs.Run.{Run, turn, start}
-use Rattle.step_core.specs.RunHost.{HostRun, host_start, host_turn}
-use Rattle.step_core.specs.RunSegment.{segment_by, segment_start}
-use Rattle.step_core.specs.RunDaemon as run_daemon
-use Rattle.step_core.specs.RunDaemon.{daemon_turn}
-use Rattle.step_core.specs.RunClient as run_client
-use Rattle.step_core.specs.RunClient.{ClientRun}
 use Rattle.step_core.specs.Shared as shareds
 use Rattle.step_core.specs.Shared.{Shared, shared_turn, shared_start, words_start, page_part, place_of}
 use Rattle.step_core.specs.SharedWords.{after_act, value_of}
@@ -30,16 +33,12 @@ use Rattle.step_core.specs.SharedDaemon as shared_daemon
 use Rattle.step_core.specs.SharedDaemon.{DaemonState, daemon_ready, daemon_act, daemon_after}
 use Rattle.step_core.specs.SharedClient as shared_client
 use Rattle.step_core.specs.SharedClient.{ClientState, client_turned}
-use Rattle.step_core.specs.SharedReady.{IsGiven}
-use Rattle.step_core.specs.ShowsHost.{AreRows}
 use Rattle.step_core.specs.ShowsClient.{ShowsClient}
 use Rattle.step_core.specs.Shows.{Shows}
 use Rattle.step_core.proofs.Later.{IsHostLater}
 use Rattle.step_core.proofs.HostTurn.{HostTurned, host_state_shows}
 use Rattle.step_core.proofs.HostKeeps.{host_keeps}
 use Rattle.step_core.proofs.HostStart.{lawful_rows, host_start_shows}
-use Rattle.step_core.proofs.SegmentLater.{later_same, segment_keeps}
-use Rattle.step_core.proofs.SegmentStart.{segment_start_shows}
 use Rattle.step_core.proofs.DaemonLeaves.{Turned}
 use Rattle.step_core.proofs.DaemonTurn.{daemon_turn_shows}
 use Rattle.step_core.proofs.DaemonKeeps.{daemon_later, magic_kept, daemon_start_shows, magic_at_start}

@@ -7,19 +7,20 @@ use Rattle.clock_gate.specs.declared.trace.Trace.{Trace}
 use Rattle.clock_gate.specs.declared.trace.Turn.{Turn}
 use Rattle.clock_gate.specs.declared.trace.Turn.TheVariants as turns
 use Rattle.clock_gate.specs.Trace.{IsLawfulTrace, times}
+use Rattle.segment_run.specs.SegmentRun.{SegmentRun}
 use Rattle.interval_now.specs.Call.{Call}
-use Rattle.step_core.specs.declared.limits.TheConstants.{MOST_JOB_STEPS}
+use Rattle.abstract_run.specs.declared.limits.TheConstants.{MOST_JOB_STEPS}
+use Rattle.abstract_run.specs.Schedule as schedule
+use Rattle.abstract_run.specs.Run.{Run, turn, start}
+use Rattle.abstract_run.specs.RunHost.{HostRun}
+use Rattle.abstract_run.specs.RunDaemon.{Work, Resting, Opening, Asking, Looking, Taking, Writing, DaemonRun}
+use Rattle.abstract_run.specs.RunClient.{CallRun, ClientRun}
+use Rattle.abstract_run.specs.RunWhole as whole
+use Rattle.abstract_run.specs.RunWhole.{run_of, run_from, lines_from, finish}
+use Rattle.abstract_run.specs.Given.{IsGiven}
 use Rattle.step_core.specs.declared.hand.Hand.{Hand}
 use Rattle.step_core.specs.declared.hand.Hand.TheVariants as hands
 use Rattle.step_core.specs.declared.marks.Marks.{Marks}
-use Rattle.step_core.specs.Schedule as schedule
-use Rattle.step_core.specs.Run.{Run, turn, start}
-use Rattle.step_core.specs.RunHost.{HostRun}
-use Rattle.step_core.specs.RunSegment.{SegmentRun}
-use Rattle.step_core.specs.RunDaemon.{Work, Resting, Opening, Asking, Looking, Taking, Writing, DaemonRun}
-use Rattle.step_core.specs.RunClient.{CallRun, ClientRun}
-use Rattle.step_core.specs.RunWhole as whole
-use Rattle.step_core.specs.RunWhole.{run_of, run_from, lines_from, finish}
 use Rattle.step_core.specs.Shared as shareds
 use Rattle.step_core.specs.Shared.{Shared, shared_turn, shared_start, shared_run, shared_lines, shared_finish}
 use Rattle.step_core.specs.SharedDaemon as shared_daemon
@@ -29,7 +30,6 @@ use Rattle.step_core.specs.ShowsDaemon.{ShowsWork}
 use Rattle.step_core.specs.ShowsClient.{ShowsCallOf}
 use Rattle.step_core.specs.Shows.{Shows}
 use Rattle.step_core.proofs.ClientLater.{ShowsClientOf}
-use Rattle.step_core.specs.SharedReady.{IsGiven}
 use Rattle.step_core.proofs.Turn.{client_of, turn_shows, start_shows}
 
 -- ---- jobs

@@ -1,6 +1,4 @@
 pub mod Room
-pub mod IntervalEnds
-pub mod Schedule
 pub mod SharedWords
 pub mod SharedHost
 pub mod SharedDaemon
@@ -8,14 +6,6 @@ pub mod SharedClient
 pub mod Parties
 pub mod Ready
 pub mod Shared
-pub mod RunHost
-pub mod RunPage
-pub mod RunSegment
-pub mod RunDaemon
-pub mod RunClient
-pub mod Run
-pub mod RunWhole
-pub mod NextLoad
 pub mod ShowsHost
 pub mod ShowsSegment
 pub mod ShowsClient
@@ -23,5 +13,3 @@ pub mod ShowsDaemon
 pub mod Shows
 pub mod SharedReady
 pub mod WordsShow
-pub mod RunFacts
-pub mod RunEnds

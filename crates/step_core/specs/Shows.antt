@@ -2,10 +2,11 @@
 use Rattle.std.specs.Prelude.{◌≡◌, length}
 use Rattle.clock_gate.specs.declared.trace.Trace.{Trace}
 use Rattle.clock_gate.specs.Trace.{IsLawfulTrace}
-use Rattle.step_core.specs.Run.{Run}
+use Rattle.segment_run.specs.ShowsSegment.{ShowsSegment}
+use Rattle.abstract_run.specs.Run.{Run}
+use Rattle.abstract_run.specs.Given.{AreRows}
 use Rattle.step_core.specs.Shared.{Shared}
-use Rattle.step_core.specs.ShowsHost.{AreRows, ShowsHost}
-use Rattle.step_core.specs.ShowsSegment.{ShowsSegment}
+use Rattle.step_core.specs.ShowsHost.{ShowsHost}
 use Rattle.step_core.specs.ShowsClient.{ShowsClients}
 use Rattle.step_core.specs.ShowsDaemon.{HasMagicFor, ShowsDaemon}
 

@@ -2,13 +2,13 @@
 use Rattle.std.specs.Prelude.{◌≡◌, ℕ, suc, ◌-◌, ◌<◌, true, List, [], ◌∷◌, Option, Some, None, is_some}
 use Rattle.clock_gate.specs.declared.trace.Trace.{Trace}
 use Rattle.clock_gate.specs.ClockRow.{reading_at}
+use Rattle.segment_run.specs.SegmentRun.{SegmentRun}
 use Rattle.interval_now.specs.declared.stage.Stage.{Stage}
 use Rattle.interval_now.specs.declared.stage.Stage.TheVariants as stages
 use Rattle.interval_now.specs.Call.{Call}
+use Rattle.abstract_run.specs.RunHost.{HostRun}
+use Rattle.abstract_run.specs.RunClient.{SegmentTry, WholeRead, Clocked, CallStage, Reading, Clocking, Paging, CallRun, ClientRun}
 use Rattle.step_core.specs.declared.marks.Marks.{Marks}
-use Rattle.step_core.specs.RunHost.{HostRun}
-use Rattle.step_core.specs.RunSegment.{SegmentRun}
-use Rattle.step_core.specs.RunClient.{SegmentTry, WholeRead, Clocked, CallStage, Reading, Clocking, Paging, CallRun, ClientRun}
 use Rattle.step_core.specs.SharedClient.{ClientState}
 use Rattle.step_core.specs.ShowsHost.{ShowsPageRead}
 use Rattle.step_core.specs.ShowsSegment.{ShowsSegmentRead}

@@ -1,9 +1,10 @@
 -- What the daemon on the shared words shows of the daemon in the abstract run.
 use Rattle.std.specs.Prelude.{◌≡◌, ℕ, ◌+◌, ◌<◌, Bool, true, false, List, [], ◌∷◌, ◌++◌, take, slice_index, Option, Some, None, is_some, IfSome}
-use Rattle.clock_gate.specs.declared.trace.Trace.{Trace}
-use Rattle.clock_gate.specs.ClockRow.{reading_at}
 use Rattle.generation_word.specs.Layout.{period_of}
 use Rattle.generation_word.specs.Numbering.{odd_after, even_after}
+use Rattle.generation_word.specs.Header.{generation_in}
+use Rattle.clock_gate.specs.declared.trace.Trace.{Trace}
+use Rattle.clock_gate.specs.ClockRow.{reading_at}
 use Rattle.segment_layout.specs.declared.words.TheConstants.{MAGIC}
 use Rattle.segment_layout.specs.declared.start.Start.{Start}
 use Rattle.segment_layout.specs.declared.start.Start.TheVariants.{Fresh, Kept, Torn}
@@ -14,23 +15,23 @@ use Rattle.segment_layout.specs.History.{Begun}
 use Rattle.status_machine.specs.declared.daemon.Daemon.{Daemon}
 use Rattle.status_machine.specs.Poll.{heard_of}
 use Rattle.status_machine.specs.Step.{ShowsPast}
+use Rattle.segment_run.specs.SegmentRun.{SegmentRun, number_at, number_shown, header_shown, published_at, is_old_in, opening_length}
+use Rattle.segment_run.specs.ShowsSegment.{HoldsWords}
 use Rattle.writer_reopen.specs.declared.order.Order.{Order}
 use Rattle.writer_reopen.specs.declared.stage.Stage.{Stage}
 use Rattle.writer_reopen.specs.declared.stage.Stage.TheVariants as stages
-use Rattle.writer_reopen.specs.Opening.{OpenerState, generation_in}
+use Rattle.writer_reopen.specs.Opening.{OpenerState}
 use Rattle.writer_reopen.specs.Poll.{marker_seen, sequence_seen}
 use Rattle.writer_reopen.specs.PollMachine.{DaemonFits}
+use Rattle.abstract_run.specs.RunHost.{HostRun}
+use Rattle.abstract_run.specs.RunDaemon.{Life, Storing, Work, Resting, Opening, Asking, Looking, Taking, Writing, DaemonRun, poll_row}
 use Rattle.step_core.specs.declared.hand.Hand.{Hand}
 use Rattle.step_core.specs.declared.hand.Hand.TheVariants as hands
 use Rattle.step_core.specs.declared.hand.Job.{Job}
 use Rattle.step_core.specs.declared.hand.Resumed.{Resumed}
 use Rattle.step_core.specs.declared.marks.PollMarks.{PollMarks}
-use Rattle.step_core.specs.RunHost.{HostRun}
-use Rattle.step_core.specs.RunSegment.{SegmentRun, number_at, number_shown, header_shown, published_at, is_old_in, opening_length}
-use Rattle.step_core.specs.RunDaemon.{Life, Storing, Work, Resting, Opening, Asking, Looking, Taking, Writing, DaemonRun, poll_row}
 use Rattle.step_core.specs.SharedDaemon.{DaemonState}
 use Rattle.step_core.specs.ShowsHost.{ShowsPageRead}
-use Rattle.step_core.specs.ShowsSegment.{HoldsWords}
 
 -- the daemon is where its incarnation has led, which looks at the page where there is one, and what it holds fits a record
 pub record IsWhere (trace : Trace) (life : Life) (daemon : Daemon) : Type 0 where

@@ -6,9 +6,9 @@ use Rattle.std.proofs.lemmas.Bool.Decides.{nat_tests}
 use Rattle.clock_gate.specs.declared.act.Act.{Act}
 use Rattle.clock_gate.specs.declared.act.Act.TheVariants.{Load, End}
 use Rattle.clock_gate.specs.Acts.{after, WereAsked}
-use Rattle.clock_gate.specs.Tries.{SeqlockRead, started, failed_try, Attempt, Wants, Absent, Failed, Read, Progress, Asks, Ends, Unpublished, Found, progress, IsCalm}
-use Rattle.clock_gate.specs.Tries as seqlock
-use Rattle.clock_gate.proofs.Tries.{data_loads-all, asks-first, asks-data, asks-last, ends-read, ends-failed, takes_few_steps}
+use Rattle.seqlock.specs.Tries.{SeqlockRead, started, failed_try, Attempt, Wants, Absent, Failed, Read, Progress, Asks, Ends, Unpublished, Found, progress, IsCalm}
+use Rattle.seqlock.specs.Tries as seqlock
+use Rattle.seqlock.proofs.Tries.{data_loads-all, asks-first, asks-data, asks-last, ends-read, ends-failed, takes_few_steps}
 use Rattle.vmclock_page.specs.Words.{count_in_word}
 use Rattle.vmclock_page.specs.PageRead.{page_lock, given, act_of, end_of, page_seen}
 use Rattle.vmclock_page.specs.PageTries.{Missed, Odd, Changed, IsMissed, missed_values, first_count, last_count, AreMissed, values_of_tries, EachMissed, OneSaw, IsWanted, OneWants, TakesAWord, read_after, FollowsItsTries}

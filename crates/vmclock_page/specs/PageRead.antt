@@ -2,8 +2,8 @@
 use Rattle.std.specs.Prelude.{ℕ, ◌≤◌, false, ◌==◌, slice_index, Option, Some, None}
 use Rattle.clock_gate.specs.declared.act.Act.{Act}
 use Rattle.clock_gate.specs.declared.act.Act.TheVariants.{Load, Store, End}
-use Rattle.clock_gate.specs.Tries as tries
-use Rattle.clock_gate.specs.Tries.{Seqlock, Outcome, Unpublished, AllFailed, Found, SeqlockRead}
+use Rattle.seqlock.specs.Tries as tries
+use Rattle.seqlock.specs.Tries.{Seqlock, Outcome, Unpublished, AllFailed, Found, SeqlockRead}
 use Rattle.vmclock_page.specs.Words.{count_in_word}
 use Rattle.vmclock_page.specs.declared.page_seen.PageSeen.{PageSeen}
 use Rattle.vmclock_page.specs.declared.page_seen.PageSeen.TheVariants.{Marker, Busy}

@@ -2,7 +2,7 @@
 use Rattle.std.specs.Prelude.{◌≡◌, ◌≢◌, ◌↔◌, ℕ, ◌+◌, ◌*◌, ◌<◌, ◌≤◌, ◌%◌, List, [], ◌∷◌, ◌++◌, length, Some}
 use Rattle.clock_gate.specs.declared.act.Act.TheVariants.{Load}
 use Rattle.clock_gate.specs.Acts.{after, WereAsked}
-use Rattle.clock_gate.specs.Tries.{SeqlockRead, started, failed_try}
+use Rattle.seqlock.specs.Tries.{SeqlockRead, started, failed_try}
 use Rattle.vmclock_page.specs.Words.{count_in_word}
 use Rattle.vmclock_page.specs.PageRead.{act_of, given, end_of}
 use Rattle.vmclock_page.specs.declared.page_seen.PageSeen.TheVariants.{Marker, Busy}

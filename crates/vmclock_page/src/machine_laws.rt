@@ -1,7 +1,7 @@
 //! What the machines promise over whole lists of values, whatever they are given.
 ghost use Rattle.std.specs.Prelude.{◌≡◌, ◌≢◌, ◌+◌, ◌^◌, ◌<◌, ℕ, List, Some};
 ghost use Rattle.clock_gate.specs.declared.trace.HostRow.{HostRow};
-ghost use Rattle.clock_gate.specs.Tries.{SeqlockRead, Unpublished, read_end};
+ghost use Rattle.seqlock.specs.Tries.{SeqlockRead, Unpublished, read_end};
 ghost use Rattle.vmclock_page.specs.Words.{AreWords, word_with_count, count_in_word, constants_in_word};
 ghost use Rattle.vmclock_page.specs.Counting.{count_of_page, page_number_of};
 ghost use Rattle.vmclock_page.specs.Rows.{IsStartPage};

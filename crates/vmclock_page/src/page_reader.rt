@@ -1,7 +1,7 @@
 ghost use Rattle.std.specs.Prelude.{◌≡◌, ◌≢◌, ◌≤◌, ◌<◌, ◌%◌, ◌↔◌, [], ◌∷◌, None};
 ghost use Rattle.clock_gate.specs.declared.limits.TheConstants.{MOST_TRIES};
 ghost use Rattle.clock_gate.specs.Acts.{IsWithin};
-ghost use Rattle.clock_gate.specs.Tries.{started, failed_try, IsStage, steps_left};
+ghost use Rattle.seqlock.specs.Tries.{started, failed_try, IsStage, steps_left};
 ghost use Rattle.vmclock_page.specs.Words.{count_in_word};
 ghost use Rattle.vmclock_page.specs.PageRead.{page_lock, act_of, given, end_of, IsPageLoad};
 
@@ -40,7 +40,7 @@ pub struct PageReader {
 
 impl Model for PageReader {
     ghost use Rattle.std.specs.Prelude.{◌≡◌, ◌≤◌, ◌%◌};
-    ghost use Rattle.clock_gate.specs.Tries.{SeqlockRead};
+    ghost use Rattle.seqlock.specs.Tries.{SeqlockRead};
     ghost use Rattle.vmclock_page.specs.PageRead.{page_lock};
     ghost use Rattle.vmclock_page.specs.Loaded.{loaded_values, values_loaded, IsLoaded};
 

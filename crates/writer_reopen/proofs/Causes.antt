@@ -6,15 +6,15 @@ use Rattle.std.proofs.lemmas.Bool.Decides.{nat_tests}
 use Rattle.clock_gate.specs.declared.act.Act.{Act}
 use Rattle.clock_gate.specs.declared.act.Act.TheVariants.{Store}
 use Rattle.clock_gate.specs.declared.limits.TheConstants.{MOST_STORES}
-use Rattle.clock_gate.specs.Tries as tries
-use Rattle.clock_gate.specs.Tries.{progress, Asks as WantsWord, Ends as HasCome}
-use Rattle.segment_layout.specs.declared.publication.Publication.{Publication}
-use Rattle.shm_writer.specs.Publisher.{Publishing}
-use Rattle.status_machine.specs.declared.daemon.Daemon.{Daemon}
+use Rattle.seqlock.specs.Tries as tries
+use Rattle.seqlock.specs.Tries.{progress, Asks as WantsWord, Ends as HasCome}
 use Rattle.vmclock_page.specs.declared.page_seen.PageSeen.{PageSeen}
 use Rattle.vmclock_page.specs.declared.page_seen.PageSeen.TheVariants.{Marker, Busy}
 use Rattle.vmclock_page.specs.PageRead as page
 use Rattle.vmclock_page.specs.PageRead.{page_lock}
+use Rattle.segment_layout.specs.declared.publication.Publication.{Publication}
+use Rattle.status_machine.specs.declared.daemon.Daemon.{Daemon}
+use Rattle.shm_writer.specs.Publisher.{Publishing}
 use Rattle.writer_reopen.specs.declared.order.Order.{Order}
 use Rattle.writer_reopen.specs.declared.polled.Polled.{Polled}
 use Rattle.writer_reopen.specs.declared.polled.Polled.TheVariants.{Published, Skipped, Stopped}

@@ -3,11 +3,12 @@ use Rattle.std.proofs.Common.{◌≡◌, ℕ, zero, suc, ◌+◌, ◌%◌, ◌<�
 use Rattle.std.specs.Prelude.{slice_index, slice_index_or, IsOk, ◌==◌, if◌then◌else◌}
 use Rattle.std.proofs.lemmas.Bool.{cases_lt}
 use Rattle.std.proofs.lemmas.List.{get_or-take, length-take-le, take_all, take_more, take-append-drop, take-take}
+use Rattle.generation_word.specs.declared.layout.Layout.{Layout}
+use Rattle.generation_word.specs.Header.{generation_in}
 use Rattle.clock_gate.specs.declared.act.Act.{Act}
 use Rattle.clock_gate.specs.declared.act.Act.TheVariants.{Load, Store, End}
-use Rattle.generation_word.specs.declared.layout.Layout.{Layout}
 use Rattle.segment_layout.specs.Image.{image_of}
-use Rattle.writer_reopen.specs.Opening.{generation_in, is_old, fresh_steps, torn_steps, move_steps, kept_steps, opening_steps, OpenerState, opening_act, opening_given, loads_at, loaded_words, IsAdmitted, LoadsImage}
+use Rattle.writer_reopen.specs.Opening.{is_old, fresh_steps, torn_steps, move_steps, kept_steps, opening_steps, OpenerState, opening_act, opening_given, loads_at, loaded_words, IsAdmitted, LoadsImage}
 use Rattle.writer_reopen.proofs.Openings.{by_cases, act-by_number}
 use Rattle.writer_reopen.proofs.OpeningLaws.{loaded-header}
 

@@ -4,14 +4,15 @@ use Rattle.std.specs.Prelude.{slice_index, slice_get, slice_index_or, ◌==◌, 
 use Rattle.std.proofs.lemmas.Bool.{eqb-true, eqb-false}
 use Rattle.std.proofs.lemmas.Bool.Decides.{nat_tests}
 use Rattle.std.proofs.lemmas.List.{get_or-take}
-use Rattle.clock_gate.specs.Acts.{after, WereAsked}
-use Rattle.clock_gate.specs.declared.act.Act.{Act}
-use Rattle.clock_gate.specs.declared.act.Act.TheVariants.{End}
 use Rattle.generation_word.specs.declared.layout.Layout.{Layout}
 use Rattle.generation_word.specs.declared.layout.Layout.TheVariants.{Two, Three}
 use Rattle.generation_word.specs.declared.header.TheConstants.{LOW_HALF_THREE}
 use Rattle.generation_word.specs.Layout.{period_of}
 use Rattle.generation_word.specs.Numbering.{odd_after, after_odd, even_after}
+use Rattle.generation_word.specs.Header.{generation_in}
+use Rattle.clock_gate.specs.Acts.{after, WereAsked}
+use Rattle.clock_gate.specs.declared.act.Act.{Act}
+use Rattle.clock_gate.specs.declared.act.Act.TheVariants.{End}
 use Rattle.segment_layout.specs.declared.start.Start.{Start}
 use Rattle.segment_layout.specs.declared.start.Start.TheVariants.{Fresh, Kept, Torn}
 use Rattle.segment_layout.specs.declared.image_fault.ImageFault.{ImageFault}
@@ -20,7 +21,7 @@ use Rattle.segment_layout.specs.Words.{fields_of_words}
 use Rattle.segment_layout.specs.Image.{has_magic, first_fault, header_tests, data_tests, unless, start_at, image_of}
 use Rattle.writer_reopen.specs.declared.opening.Opening.{Opening}
 use Rattle.writer_reopen.specs.Progress.{Ends, next_or_end}
-use Rattle.writer_reopen.specs.Opening.{version_in, generation_in, is_old, by_generation, torn_steps, kept_steps, later_steps, opening_steps, moved_to, opening_for, opening_of, OpenerState, new_opener, opening_act, opening_given, opening_left, IsMoved, loaded_words}
+use Rattle.writer_reopen.specs.Opening.{version_in, is_old, by_generation, torn_steps, kept_steps, later_steps, opening_steps, moved_to, opening_for, opening_of, OpenerState, new_opener, opening_act, opening_given, opening_left, IsMoved, loaded_words}
 use Rattle.writer_reopen.proofs.Openings.{by_cases, asked_below, act-by_number, fields_of_ten, is_kept}
 
 -- ---- by all the values that were given

@@ -4,10 +4,11 @@ use Rattle.std.specs.Prelude.{length, take, slice_index_or, slice_index, slice_s
 use Rattle.std.proofs.lemmas.Bool.{cases_lt}
 use Rattle.std.proofs.lemmas.Bool.Decides.{nat_tests}
 use Rattle.std.proofs.lemmas.List.{append-nil, get_or_past, get_or-take, length-append, length-take-le, take-take, take_more_set}
-use Rattle.clock_gate.specs.declared.act.Act.{Act}
-use Rattle.clock_gate.specs.declared.act.Act.TheVariants.{End}
 use Rattle.generation_word.specs.declared.layout.Layout.{Layout}
 use Rattle.generation_word.specs.Header.{header_of}
+use Rattle.generation_word.specs.Header.{generation_in}
+use Rattle.clock_gate.specs.declared.act.Act.{Act}
+use Rattle.clock_gate.specs.declared.act.Act.TheVariants.{End}
 use Rattle.segment_layout.specs.declared.start.Start.{Start}
 use Rattle.segment_layout.specs.declared.start.Start.TheVariants.{Fresh, Kept, Torn}
 use Rattle.segment_layout.specs.declared.image_fault.ImageFault.{ImageFault}
@@ -16,7 +17,7 @@ use Rattle.segment_layout.specs.Words.{AreGoodWords, fields_of_words}
 use Rattle.segment_layout.specs.Image.{has_magic, first_fault, header_tests, data_tests, unless, start_at, image_of}
 use Rattle.segment_layout.proofs.Admitted.{good_from_tests}
 use Rattle.writer_reopen.specs.Progress.{Ends, end_of}
-use Rattle.writer_reopen.specs.Opening.{generation_in, is_old, by_generation, torn_steps, move_steps, kept_steps, later_steps, opening_steps, opening_for, opening_of, OpenerState, opening_act, opening_given, opening_end, loaded_words, IsAdmitted}
+use Rattle.writer_reopen.specs.Opening.{is_old, by_generation, torn_steps, move_steps, kept_steps, later_steps, opening_steps, opening_for, opening_of, OpenerState, opening_act, opening_given, opening_end, loaded_words, IsAdmitted}
 use Rattle.writer_reopen.proofs.InOrder.{NoEnd, ended_past, act_of-in_order, ended_in_order, load_goes_on, store_goes_on, either_way}
 
 -- ---- nothing loaded yet

@@ -8,9 +8,9 @@ use Rattle.clock_gate.specs.declared.act.Act.{Act}
 use Rattle.clock_gate.specs.declared.act.Act.TheVariants.{Load, End}
 use Rattle.clock_gate.specs.declared.clock_row.ClockRow.{ClockRow}
 use Rattle.clock_gate.specs.declared.clock_row.Reading.{Reading}
-use Rattle.clock_gate.specs.Tries as tries
-use Rattle.clock_gate.specs.Tries.{SeqlockRead, Outcome, started, IsStage, steps_left, read_end, progress, Asks as WantsWord, Ends as HasCome}
-use Rattle.clock_gate.proofs.Tries.{started-stage, stage_given, nearer, open_act, open_read, open_asks, IsOpen, moves, hands_on, place}
+use Rattle.seqlock.specs.Tries as tries
+use Rattle.seqlock.specs.Tries.{SeqlockRead, Outcome, started, IsStage, steps_left, read_end, progress, Asks as WantsWord, Ends as HasCome}
+use Rattle.seqlock.proofs.Tries.{started-stage, stage_given, nearer, open_act, open_read, open_asks, IsOpen, moves, hands_on, place}
 use Rattle.vmclock_page.specs.declared.page_seen.PageSeen.{PageSeen}
 use Rattle.vmclock_page.specs.declared.page_seen.PageSeen.TheVariants.{Marker, Busy}
 use Rattle.vmclock_page.specs.PageRead as page

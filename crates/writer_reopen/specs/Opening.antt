@@ -1,13 +1,13 @@
 -- The opening of a segment, by the values that its steps were given (after ClockBound's PROTOCOL; the move from layout 2
 -- to layout 3 is this project's own).
 use Rattle.std.specs.Prelude.{◌≡◌, ◌≢◌, ℕ, ◌+◌, ◌-◌, ◌%◌, Bool, false, List, [], ◌∷◌, ◌++◌, length, take, Option, Some, None, IsOk, slice_index, ◌==◌, if◌then◌else◌}
-use Rattle.clock_gate.specs.declared.act.Act.{Act}
-use Rattle.clock_gate.specs.declared.act.Act.TheVariants.{Load, Store}
 use Rattle.generation_word.specs.declared.layout.Layout.{Layout}
 use Rattle.generation_word.specs.declared.layout.Layout.TheVariants.{Two, Three}
 use Rattle.generation_word.specs.Layout.{period_of}
 use Rattle.generation_word.specs.Numbering.{odd_after, even_after}
-use Rattle.generation_word.specs.Header.{word1_of, header_of}
+use Rattle.generation_word.specs.Header.{word1_of, header_of, generation_in}
+use Rattle.clock_gate.specs.declared.act.Act.{Act}
+use Rattle.clock_gate.specs.declared.act.Act.TheVariants.{Load, Store}
 use Rattle.segment_layout.specs.declared.words.TheConstants.{MAGIC}
 use Rattle.segment_layout.specs.declared.start.Start.TheVariants.{Fresh, Kept, Torn}
 use Rattle.segment_layout.specs.Words.{fields_of_words}
@@ -18,9 +18,6 @@ use Rattle.writer_reopen.specs.Progress.{Progress, in_order, act_of, end_of}
 -- the version and the generation that a header tells
 abbrev pub version_in : ℕ → ℕ
 version_in header = (header_of header).1
-
-abbrev pub generation_in : ℕ → ℕ
-generation_in header = (header_of header).2
 
 -- a segment of layout 3 whose header is still of version 2
 abbrev pub is_old : Layout → ℕ → Bool

@@ -1,21 +1,21 @@
 -- One poll of the daemon, by the values that its steps were given: what it reads, what it makes of it, what it stores.
 use Rattle.std.specs.Prelude.{◌≡◌, ℕ, ◌-◌, ◌≤◌, nat_lt, if◌then◌else◌, List, [], ◌∷◌, length, take, Option, Some, None, slice_get, slice_index_or}
+use Rattle.generation_word.specs.Layout.{period_of}
+use Rattle.generation_word.specs.Numbering.{even_after}
 use Rattle.clock_gate.specs.declared.act.Act.{Act}
 use Rattle.clock_gate.specs.declared.act.Act.TheVariants.{Load}
 use Rattle.clock_gate.specs.declared.clock_row.ClockRow.{ClockRow}
 use Rattle.clock_gate.specs.declared.clock_row.Reading.{Reading}
 use Rattle.clock_gate.specs.declared.limits.TheConstants.{LAST_MOMENT, MOST_HOST_ROWS, MOST_STORES}
-use Rattle.clock_gate.specs.Tries.{tries_of}
-use Rattle.generation_word.specs.Layout.{period_of}
-use Rattle.generation_word.specs.Numbering.{even_after}
+use Rattle.seqlock.specs.Tries.{tries_of}
+use Rattle.vmclock_page.specs.declared.page_seen.PageSeen.{PageSeen}
+use Rattle.vmclock_page.specs.declared.page_seen.PageSeen.TheVariants.{Marker, Busy}
+use Rattle.vmclock_page.specs.PageRead.{page_lock, seen_of}
 use Rattle.segment_layout.specs.declared.publication.Publication.{Publication}
 use Rattle.status_machine.specs.declared.base.Base.{Base}
 use Rattle.status_machine.specs.declared.daemon.Daemon.{Daemon}
 use Rattle.status_machine.specs.declared.poll.Poll.{Poll}
 use Rattle.status_machine.specs.Step.{daemon_step, record_of}
-use Rattle.vmclock_page.specs.declared.page_seen.PageSeen.{PageSeen}
-use Rattle.vmclock_page.specs.declared.page_seen.PageSeen.TheVariants.{Marker, Busy}
-use Rattle.vmclock_page.specs.PageRead.{page_lock, seen_of}
 use Rattle.shm_writer.specs.Publisher.{stores}
 use Rattle.writer_reopen.specs.declared.order.Order.{Order}
 use Rattle.writer_reopen.specs.declared.polled.Polled.{Polled}

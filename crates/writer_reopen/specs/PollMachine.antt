@@ -1,20 +1,20 @@
 -- A poll as a machine: where it stands, and what one more value makes of it.
 use Rattle.std.specs.Prelude.{◌≡◌, ◌⊎◌, ℕ, ◌+◌, ◌-◌, ◌*◌, ◌<◌, ◌≤◌, true, if◌then◌else◌, List, Option, Some, None, IfSome, is_some}
+use Rattle.generation_word.specs.Layout.{period_of}
 use Rattle.clock_gate.specs.declared.act.Act.{Act}
 use Rattle.clock_gate.specs.declared.act.Act.TheVariants.{Load, Store, End}
 use Rattle.clock_gate.specs.declared.clock_row.ClockRow.{ClockRow}
 use Rattle.clock_gate.specs.declared.clock_row.Reading.{Reading}
 use Rattle.clock_gate.specs.declared.limits.TheConstants.{LAST_MOMENT, MOST_DRIFT, MOST_STORES, MOST_TRIES}
-use Rattle.clock_gate.specs.Tries.{SeqlockRead, started, IsStage, steps_left}
-use Rattle.generation_word.specs.Layout.{period_of}
-use Rattle.segment_layout.specs.declared.publication.Publication.{Publication}
-use Rattle.segment_layout.specs.Words.{IsGoodWord}
-use Rattle.status_machine.specs.declared.daemon.Daemon.{Daemon}
-use Rattle.status_machine.specs.Poll.{BaseFits}
+use Rattle.seqlock.specs.Tries.{SeqlockRead, started, IsStage, steps_left}
 use Rattle.vmclock_page.specs.declared.page_seen.PageSeen.{PageSeen}
 use Rattle.vmclock_page.specs.declared.page_seen.PageSeen.TheVariants.{Marker, Busy}
 use Rattle.vmclock_page.specs.PageRead as page
 use Rattle.vmclock_page.specs.PageRead.{page_lock}
+use Rattle.segment_layout.specs.declared.publication.Publication.{Publication}
+use Rattle.segment_layout.specs.Words.{IsGoodWord}
+use Rattle.status_machine.specs.declared.daemon.Daemon.{Daemon}
+use Rattle.status_machine.specs.Poll.{BaseFits}
 use Rattle.shm_writer.specs.Publisher.{Publishing, new_publishing, publishing_given}
 use Rattle.writer_reopen.specs.declared.order.Order.{Order}
 use Rattle.writer_reopen.specs.declared.polled.Polled.{Polled}

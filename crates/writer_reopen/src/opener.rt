@@ -5,7 +5,8 @@ ghost use Rattle.generation_word.specs.Layout.{period_of};
 ghost use Rattle.generation_word.specs.Numbering.{odd_after, even_after};
 ghost use Rattle.generation_word.specs.Header.{header_of};
 ghost use Rattle.segment_layout.specs.Words.{AreGoodWords, fields_of_words};
-ghost use Rattle.writer_reopen.specs.Opening.{generation_in, is_old, fresh_steps, torn_steps, kept_steps, later_steps, opening_steps, moved_to, opening_for, new_opener, opening_act, opening_given, opening_end, opening_left, IsAdmitted};
+ghost use Rattle.writer_reopen.specs.Opening.{is_old, fresh_steps, torn_steps, kept_steps, later_steps, opening_steps, moved_to, opening_for, new_opener, opening_act, opening_given, opening_end, opening_left, IsAdmitted};
+ghost use Rattle.generation_word.specs.Header.{generation_in};
 
 use crate::opening::Opening;
 use clock_gate::Act;

@@ -2,7 +2,7 @@
 ghost use Rattle.std.specs.Prelude.{◌≡◌, ◌≢◌, ◌≤◌, ◌<◌, ◌+◌, ◌-◌, ◌*◌, true, length, is_some, IfSome};
 ghost use Rattle.clock_gate.specs.declared.act.Act.TheVariants.{Load, End};
 ghost use Rattle.clock_gate.specs.declared.limits.TheConstants.{LAST_MOMENT, MOST_STORES};
-ghost use Rattle.clock_gate.specs.Tries.{IsStage, steps_left};
+ghost use Rattle.seqlock.specs.Tries.{IsStage, steps_left};
 ghost use Rattle.vmclock_page.specs.PageRead.{page_lock, act_of, given, end_of};
 ghost use Rattle.shm_writer.specs.Publisher.{publishing_given};
 ghost use Rattle.writer_reopen.specs.declared.stage.TheConstants.{CLOCK_WORD};

@@ -1,6 +1,6 @@
 use Rattle.std.proofs.Common.{refl, subst, sym}
-use Rattle.step_core.specs.Run.{Run}
-use Rattle.step_core.specs.RunWhole.{run_of}
+use Rattle.abstract_run.specs.Run.{Run}
+use Rattle.abstract_run.specs.RunWhole.{run_of}
 use Rattle.promised_truth.specs.Laws.{TellsPremises}
 use Rattle.bound_cli.specs.Headline.{IsFinished}
 use Rattle.bound_cli.proofs.Dated.{run_dated}

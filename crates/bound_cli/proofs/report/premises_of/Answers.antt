@@ -1,5 +1,5 @@
 use Rattle.std.proofs.Common.{List, subst, sym}
-use Rattle.step_core.specs.declared.event.Event.{Event}
+use Rattle.abstract_run.specs.declared.event.Event.{Event}
 use Rattle.run_promises.specs.Runs.{IsRunOf}
 use Rattle.bound_cli.proofs.report.premises_of.Goals as goal
 

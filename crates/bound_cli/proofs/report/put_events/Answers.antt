@@ -1,7 +1,7 @@
 use Rattle.std.proofs.Common.{◌≡◌, ◌++◌, ◌+◌, [], ℕ, List, drop, arith, ap, sym, ◌∙◌, append_assoc}
 use Rattle.std.specs.String.{string_bytes}
-use Rattle.step_core.specs.declared.event.Event.{Event}
 use Rattle.std.proofs.lemmas.List.{drop_all, append-nil}
+use Rattle.abstract_run.specs.declared.event.Event.{Event}
 use Rattle.bound_cli.specs.Civil.{line_with}
 use Rattle.bound_cli.specs.Replay.{printed_of, lines_of}
 use Rattle.bound_cli.proofs.ReportLines.{lines_of-more, lines_of-none}

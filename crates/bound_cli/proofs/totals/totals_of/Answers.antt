@@ -1,6 +1,6 @@
 use Rattle.std.proofs.Common.{◌≡◌, ◌+◌, [], drop, arith, ap, sym, ◌∙◌}
 use Rattle.std.proofs.lemmas.List.{drop_all}
-use Rattle.step_core.specs.declared.event.Event.{Event}
+use Rattle.abstract_run.specs.declared.event.Event.{Event}
 use Rattle.bound_cli.specs.declared.totals.Totals.{Totals}
 use Rattle.bound_cli.specs.Replay.{counted, counted_all}
 use Rattle.bound_cli.proofs.ReportLines.{counted_all-more, counted_all-none}

@@ -1,6 +1,6 @@
 use Rattle.std.proofs.Common.{◌≡◌, ◌++◌, ◌<◌, [], List, length, get_or, option_to_list, take, arith, sym, ap, ◌∙◌}
 use Rattle.std.proofs.lemmas.List.{take_all}
-use Rattle.step_core.specs.declared.event.Event.{Event}
+use Rattle.abstract_run.specs.declared.event.Event.{Event}
 use Rattle.bound_order.specs.declared.told.Told.{Told}
 use Rattle.order_text.specs.Told.{answers_told, event_told}
 use Rattle.order_text.proofs.Texts.{answers_told-more, answers_told-none}

@@ -1,6 +1,6 @@
 use Rattle.std.proofs.Common.{◌≡◌, ◌-◌, slice_index_or, Some, None, sym, ◌∙◌, ap, arith}
-use Rattle.step_core.specs.RunFacts.{EndedAs}
 use Rattle.std.proofs.lemmas.List.{get_or_default}
+use Rattle.abstract_run.specs.RunFacts.{EndedAs}
 use Rattle.run_verdict.specs.Past.{no_event, ended_in}
 use Rattle.run_verdict.proofs.Backwards.{base_here, base_elsewhere, base_none}
 use Rattle.run_verdict.proofs.looking.base_before.Goals as goal

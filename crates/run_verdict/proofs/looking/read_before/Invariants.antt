@@ -1,5 +1,5 @@
 use Rattle.std.proofs.Common.{◌≡◌, ◌≤◌}
-use Rattle.step_core.specs.RunFacts.{told_at}
+use Rattle.abstract_run.specs.RunFacts.{told_at}
 use Rattle.run_verdict.specs.Past.{past_of}
 use Rattle.run_verdict.proofs.looking.read_before.Given as goal
 

@@ -1,4 +1,4 @@
-use Rattle.clock_gate.proofs.Tries as laws
+use Rattle.seqlock.proofs.Tries as laws
 use Rattle.shm_reader.specs.SegmentTries.{segment_lock}
 use Rattle.shm_reader.proofs.SegmentRun.{saw, saw_so}
 use Rattle.shm_reader.proofs.laws.segment_read_laws.Goals as goal

@@ -1,5 +1,5 @@
 use Rattle.std.proofs.Common.{sym, subst, arith}
-use Rattle.clock_gate.specs.Tries.{SeqlockRead}
+use Rattle.seqlock.specs.Tries.{SeqlockRead}
 use Rattle.interval_now.specs.declared.stage.Stage.TheVariants.{Segment}
 use Rattle.interval_now.specs.Call.{IsCall}
 use Rattle.interval_now.proofs.CallSteps.{started_is_call}

@@ -1,7 +1,7 @@
 use Rattle.std.proofs.Common.{◌≡◌, nat_eq, slice_index_or, Some, sym, ◌∙◌, ap}
 use Rattle.std.proofs.lemmas.List.{get_or_default}
 use Rattle.std.specs.HashMap.{get}
-use Rattle.step_core.specs.RunFacts.{EndedAs}
+use Rattle.abstract_run.specs.RunFacts.{EndedAs}
 use Rattle.run_verdict.specs.Past.{no_event, ended_in}
 use Rattle.run_verdict.proofs.PastNext.{read_next, base_next, before_next}
 use Rattle.run_verdict.proofs.past.Past.put.Goals as goal

@@ -1,9 +1,10 @@
 use Rattle.std.proofs.Common.{◌≡◌, ℕ, sym, ◌∙◌, refl, ap, subst, take, drop, Some, arith}
 use Rattle.std.specs.Prelude.{slice_index}
-use Rattle.clock_gate.specs.Tries.{SeqlockRead, Asks, Ends, Unpublished, Found, progress}
+use Rattle.generation_word.specs.Header.{generation_in}
+use Rattle.seqlock.specs.Tries.{SeqlockRead, Asks, Ends, Unpublished, Found, progress}
 use Rattle.segment_layout.specs.Record.{RecordFields}
 use Rattle.shm_reader.specs.declared.seen.Seen.TheVariants.{Whole}
-use Rattle.shm_reader.specs.SegmentTries.{segment_lock, generation_in}
+use Rattle.shm_reader.specs.SegmentTries.{segment_lock}
 use Rattle.shm_reader.proofs.Stands.{stands-absent, stands-more, stands-all, seen_at, act_at, unseen_at, load_at}
 use Rattle.shm_reader.proofs.reader.SegmentReader.end.Goals as goal
 use Rattle.shm_reader.proofs.reader.SegmentReader.end.Goals.{Then-generation-eq0, Then-self-lt10, After-rec_in}

@@ -1,7 +1,7 @@
 use Rattle.std.proofs.Common.{◌≡◌, ◌≢◌, ◌<◌, ◌+◌, ℕ, ◌∷◌, take, arith, sym, subst}
 use Rattle.std.specs.Prelude.{slice_set}
 use Rattle.clock_gate.specs.declared.act.Act.TheVariants.{End}
-use Rattle.clock_gate.specs.Tries.{SeqlockRead, IsStage, with_value}
+use Rattle.seqlock.specs.Tries.{SeqlockRead, IsStage, with_value}
 use Rattle.segment_layout.specs.Words.{AreGoodWords}
 use Rattle.shm_reader.specs.SegmentTries.{segment_lock, act_of, given, stands, IsGoodLoad}
 use Rattle.shm_reader.proofs.Stands.{few_loaded, keep_view, kept_stage, kept_good, good_load}

@@ -1,6 +1,6 @@
 use Rattle.std.proofs.Common.{ℕ, subst, ◌≡◌, arith, ap, sym, ◌∙◌}
 use Rattle.clock_gate.specs.declared.act.Act.TheVariants.{End}
-use Rattle.clock_gate.specs.Tries.{IsStage, act_of as act_of_progress}
+use Rattle.seqlock.specs.Tries.{IsStage, act_of as act_of_progress}
 use Rattle.shm_reader.specs.SegmentTries.{segment_lock, stands, act_of}
 use Rattle.shm_reader.proofs.Stands.{stands-none, stands-absent, stands-word, stands-last}
 use Rattle.shm_reader.proofs.reader.SegmentReader.next.Goals as goal

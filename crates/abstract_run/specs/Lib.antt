@@ -1,0 +1,12 @@
+pub mod Given
+pub mod Schedule
+pub mod RunHost
+pub mod RunPage
+pub mod RunDaemon
+pub mod RunClient
+pub mod Run
+pub mod RunWhole
+pub mod NextLoad
+pub mod IntervalEnds
+pub mod RunFacts
+pub mod RunEnds
