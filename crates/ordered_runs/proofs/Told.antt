@@ -1,12 +1,11 @@
 -- The answers of a whole run are as they are asked for.
-use Rattle.std.proofs.Common.{◌≡◌, ℕ, ◌<◌, List, Option, Some, IfSome, All, length, slice_get, slice_index_or, refl, sym, ap, subst, ◌∙◌, arith}
+use Rattle.std.proofs.Common.{◌≡◌, ℕ, List, Option, Some, IfSome, All, slice_index_or, refl, ap, ◌∙◌}
 use Rattle.std.proofs.lemmas.List.Elements.{All-from_recursion, recursion_from_All}
 use Rattle.clock_gate.specs.declared.clock_row.ClockRow.{ClockRow}
 use Rattle.clock_gate.specs.declared.trace.Trace.{Trace}
 use Rattle.clock_gate.specs.Trace.{IsClient, IsLawfulTrace}
 use Rattle.interval_now.specs.declared.answers.Answer.{Answer}
 use Rattle.interval_now.specs.declared.answers.Answer.TheVariants as answers
-use Rattle.bound_order.specs.declared.told.Told.{Told}
 use Rattle.bound_order.specs.Ordering.{IsTold}
 use Rattle.run_theorem.specs.Calls.{AllCallsAnswered}
 use Rattle.abstract_run.specs.declared.event.Event.{Event}

@@ -1,4 +1,4 @@
-use Rattle.std.proofs.Common.{◌≡◌, ◌++◌, ◌<◌, [], List, length, get_or, option_to_list, take, arith, sym, ap, ◌∙◌}
+use Rattle.std.proofs.Common.{◌++◌, ◌<◌, List, length, option_to_list, take, arith, sym, ap, ◌∙◌}
 use Rattle.std.proofs.lemmas.List.{take_all}
 use Rattle.abstract_run.specs.declared.event.Event.{Event}
 use Rattle.bound_order.specs.declared.told.Told.{Told}
