@@ -2,5 +2,5 @@ pub mod Agreement
 pub mod Answers
 pub mod Kind
 pub mod Line
-pub mod Parts
 pub mod Session
+pub mod Signed

@@ -1,15 +1,14 @@
 -- What the lines so far come to, and which line may follow them.
-use Rattle.std.specs.Prelude.{ℕ, ◌+◌, ◌-◌, ◌==◌, Bool, true, false, ◌&&◌, ◌||◌, not, nat_le, List, [], ◌∷◌, ◌++◌, length, set, Option, Some, None, Result, Ok, Err, if◌then◌else◌}
+use Rattle.std.specs.Prelude.{ℕ, ◌+◌, ◌-◌, ◌==◌, Bool, true, false, ◌&&◌, ◌||◌, not, nat_le, List, [], ◌∷◌, ◌++◌, length, set, Option, Some, None, if◌then◌else◌}
 use Rattle.std.specs.List.{count_by}
+use Rattle.csv_records.specs.declared.reason.Reason.{Reason}
+use Rattle.csv_records.specs.declared.reason.Reason.TheVariants as reasons
 use Rattle.bound_agree.specs.Board.{no_spans}
 use Rattle.bound_agree.specs.Span.{SpanEnds}
-use Rattle.trace_reader.specs.declared.reason.Reason.{Reason}
-use Rattle.trace_reader.specs.declared.reason.Reason.TheVariants as reasons
 use Rattle.agree_text.specs.declared.limits.TheConstants.{MOST_ASKS, MOST_RECORDS}
 use Rattle.agree_text.specs.declared.line.Line.{Line}
 use Rattle.agree_text.specs.declared.line.Line.TheVariants.{Header, Set, Drop, Ask}
 use Rattle.agree_text.specs.Answers.{answer_text, header_line}
-use Rattle.agree_text.specs.Line.{◌>>=◌, line_of}
 
 -- the spans after a line
 abbrev pub changed : List (Option SpanEnds) → Line → List (Option SpanEnds)
@@ -30,12 +29,6 @@ is_ask Header = false
 is_ask (Set server span) = false
 is_ask (Drop server) = false
 is_ask (Ask most_false truth) = true
-
-abbrev pub is_header : Line → Bool
-is_header Header = true
-is_header (Set server span) = false
-is_header (Drop server) = false
-is_header (Ask most_false truth) = false
 
 -- the spans after some lines
 unfoldable pub spans_after : List (Option SpanEnds) → List Line → List (Option SpanEnds)
@@ -72,28 +65,18 @@ taken session line = record {
 }
 
 -- the first line isn't the header, or a later one is
-abbrev pub is_misplaced : SessionFields → Line → Bool
-is_misplaced session Header = not (session.lines == 0)
-is_misplaced session (Set server span) = session.lines == 0
-is_misplaced session (Drop server) = session.lines == 0
-is_misplaced session (Ask most_false truth) = session.lines == 0
+abbrev pub breaks_order : SessionFields → Line → Bool
+breaks_order session Header = not (session.lines == 0)
+breaks_order session (Set server span) = session.lines == 0
+breaks_order session (Drop server) = session.lines == 0
+breaks_order session (Ask most_false truth) = session.lines == 0
 
 -- there are as many lines after the header as may be, or as many questions
-abbrev pub is_full : SessionFields → Line → Bool
-is_full session line = nat_le (MOST_RECORDS + 1) session.lines || (is_ask line && nat_le MOST_ASKS session.asks)
+abbrev pub passes_limit : SessionFields → Line → Bool
+passes_limit session line = nat_le (MOST_RECORDS + 1) session.lines || (is_ask line && nat_le MOST_ASKS session.asks)
 
 -- why the line may not follow these
 abbrev pub fault_of : SessionFields → Line → Option Reason
 fault_of session line =
-    if is_misplaced session line then Some reasons.Order
-    else if is_full session line then Some reasons.Limit else None
-
-abbrev pub unless : {A : Type 0} → Option Reason → A → Result A Reason
-unless (Some reason) x = Err reason
-unless None x = Ok x
-
--- what a record says after these lines, or the first reason to refuse it
-abbrev pub line_after : SessionFields → List (List ℕ) → Result Line Reason
-line_after session rec = do
-  line ← line_of rec
-  unless (fault_of session line) line
+    if breaks_order session line then Some reasons.Order
+    else if passes_limit session line then Some reasons.Limit else None

@@ -1,15 +1,15 @@
 ghost use Rattle.std.specs.Prelude.{◌≡◌, [], IfErr, IfOk};
-ghost use Rattle.trace_reader.specs.declared.trace_error.TraceError.TheVariants.{Memory};
+ghost use Rattle.csv_records.specs.declared.trace_error.TraceError.TheVariants.{Memory};
+ghost use Rattle.csv_records.specs.TraceError.{Gives};
+ghost use Rattle.csv_records.specs.Records.{records_of};
 ghost use Rattle.agree_text.specs.Session.{session_of};
-ghost use Rattle.trace_reader.specs.Errors.{Gives};
-ghost use Rattle.trace_reader.specs.Records.{records_of};
 ghost use Rattle.agree_text.specs.Agreement.{agreement_text, session_in, HasFault, IsOutput};
 
 use crate::session::Session;
 use clock_gate::List;
 use csv::ByteRecord;
+use csv_records::{Reason, Records, TraceError, TraceFault};
 use std::alloc::Global;
-use trace_reader::{Reason, Records, TraceError, TraceFault};
 
 fn begun(alloc: Global) -> Result<Session, TraceError>
     ensures value { IfOk result (λ session. session ≡ session_of []) }

@@ -1,10 +1,8 @@
 //! The kinds of a text's records.
-ghost use Rattle.std.specs.Prelude.{◌≡◌, Ok, Err};
-ghost use Rattle.csv.specs.Records.{fields_of};
-ghost use Rattle.agree_text.specs.Kind.{allows, kind_in, kind_named as kind_by_name, word_of};
+ghost use Rattle.std.specs.Prelude.{◌≡◌};
+ghost use Rattle.agree_text.specs.Kind.{allows};
 
-use csv::ByteRecord;
-use trace_reader::Reason;
+use csv_records::Worded;
 
 /// What a record is about, by its first field.
 #[derive(Clone, Copy, Debug, PartialEq, Eq)]
@@ -15,39 +13,26 @@ pub enum Kind {
     Ask,
 }
 
-const KINDS: [Kind; 4] = [Kind::Header, Kind::Set, Kind::Drop, Kind::Ask];
+pub const KINDS: [Kind; 4] = [Kind::Header, Kind::Set, Kind::Drop, Kind::Ask];
 
-#[tactic(auto, unfolding(crate::specs::Kind::word_of))]
-fn word(kind: Kind) -> &'static [u8]
-    ensures { result.now ≡ word_of kind }
-{
-    match kind {
-        Kind::Header => b"agree-trace",
-        Kind::Set => b"set",
-        Kind::Drop => b"drop",
-        Kind::Ask => b"ask",
-    }
-}
+impl Worded for Kind {
+    ghost use Rattle.agree_text.specs.Kind.{word_of as spelled};
 
-#[tactic(auto, unfolding(crate::specs::Kind::kind_named))]
-fn kind_named(field: &[u8]) -> Option<Kind>
-    ensures { result ≡ kind_by_name field.now }
-{
-    KINDS.iter().copied().find(|k| field == word(*k))
-}
+    ghost word_of = { spelled };
 
-/// The kind of a record.
-pub fn kind_of(row: &ByteRecord) -> Result<Kind, Reason>
-    ensures { result ≡ kind_in (fields_of row.now) }
-{
-    match row.get(0) {
-        None => Err(Reason::Kind),
-        Some(field) => kind_named(field).ok_or(Reason::Kind),
+    #[tactic(auto, unfolding(crate::specs::Kind::word_of))]
+    fn word(self) -> &'static [u8] {
+        match self {
+            Kind::Header => b"agree-trace",
+            Kind::Set => b"set",
+            Kind::Drop => b"drop",
+            Kind::Ask => b"ask",
+        }
     }
 }
 
 /// Whether a record of this kind may have so many fields.
-pub fn is_allowed(kind: Kind, fields: usize) -> bool
+pub fn allows(kind: Kind, fields: usize) -> bool
     ensures { result ≡ allows kind fields }
 {
     match kind {

@@ -2,13 +2,13 @@
 ghost use Rattle.std.specs.Prelude.{◌≡◌, ◌≤◌, IfOk, Ok, Err};
 ghost use Rattle.csv.specs.Records.{fields_of};
 ghost use Rattle.bound_agree.specs.declared.board.TheConstants.{MOST_SERVERS};
-ghost use Rattle.agree_text.specs.Line.{IsLine, server_at, span_at, set_in, drop_in, ask_in, line_by, line_of};
+ghost use Rattle.agree_text.specs.Line.{IsLine, server_part, span_part, set_in, drop_in, ask_in, line_by, line_of};
 
-use crate::kind::{Kind, is_allowed, kind_of};
-use crate::parts::{read_number, read_signed, read_truth};
+use crate::kind::{KINDS, Kind, allows};
+use crate::signed::{read_signed, read_truth};
 use bound_agree::{MOST_SERVERS, Span};
 use csv::ByteRecord;
-use trace_reader::Reason;
+use csv_records::{Reason, read_kind, read_number};
 
 /// What a record says.
 #[derive(Clone, Copy, Debug, PartialEq, Eq)]
@@ -24,7 +24,7 @@ pub enum Line {
 }
 
 fn read_server(row: &ByteRecord) -> Result<u32, Reason>
-    ensures value { result ≡ server_at (fields_of row.now) }
+    ensures value { result ≡ server_part (fields_of row.now) }
     ensures within { IfOk result (λ server. (1 ≤ server) × (server ≤ MOST_SERVERS)) }
 {
     let server = read_number(row, 1, 1, u64::from(MOST_SERVERS))?;
@@ -32,14 +32,14 @@ fn read_server(row: &ByteRecord) -> Result<u32, Reason>
 }
 
 fn read_span(row: &ByteRecord) -> Result<Span, Reason>
-    ensures { result ≡ span_at (fields_of row.now) }
+    ensures { result ≡ span_part (fields_of row.now) }
 {
     let earliest = read_signed(row, 2)?;
     let latest = read_signed(row, 3)?;
     Span::new(earliest, latest).ok_or(Reason::Number)
 }
 
-fn read_set(row: &ByteRecord) -> Result<Line, Reason>
+fn set_in(row: &ByteRecord) -> Result<Line, Reason>
     ensures value { result ≡ set_in (fields_of row.now) }
     ensures line { IfOk result IsLine }
 {
@@ -48,7 +48,7 @@ fn read_set(row: &ByteRecord) -> Result<Line, Reason>
     Ok(Line::Set(server, span))
 }
 
-fn read_drop(row: &ByteRecord) -> Result<Line, Reason>
+fn drop_in(row: &ByteRecord) -> Result<Line, Reason>
     ensures value { result ≡ drop_in (fields_of row.now) }
     ensures line { IfOk result IsLine }
 {
@@ -56,7 +56,7 @@ fn read_drop(row: &ByteRecord) -> Result<Line, Reason>
     Ok(Line::Drop(server))
 }
 
-fn read_ask(row: &ByteRecord) -> Result<Line, Reason>
+fn ask_in(row: &ByteRecord) -> Result<Line, Reason>
     ensures value { result ≡ ask_in (fields_of row.now) }
     ensures line { IfOk result IsLine }
 {
@@ -65,7 +65,7 @@ fn read_ask(row: &ByteRecord) -> Result<Line, Reason>
     Ok(Line::Ask(most_false as u32, truth))
 }
 
-fn read_by(kind: Kind, row: &ByteRecord) -> Result<Line, Reason>
+fn line_by(kind: Kind, row: &ByteRecord) -> Result<Line, Reason>
     ensures value { result ≡ line_by kind (fields_of row.now) }
     ensures line { IfOk result IsLine }
 {
@@ -74,21 +74,21 @@ fn read_by(kind: Kind, row: &ByteRecord) -> Result<Line, Reason>
             read_number(row, 1, 1, 1)?;
             Ok(Line::Header)
         }
-        Kind::Set => read_set(row),
-        Kind::Drop => read_drop(row),
-        Kind::Ask => read_ask(row),
+        Kind::Set => set_in(row),
+        Kind::Drop => drop_in(row),
+        Kind::Ask => ask_in(row),
     }
 }
 
 /// What a record says by itself.
 #[tactic(auto, unfolding(crate::specs::Line::line_of))]
-pub fn read_line(row: &ByteRecord) -> Result<Line, Reason>
+pub fn line_of(row: &ByteRecord) -> Result<Line, Reason>
     ensures value { result ≡ line_of (fields_of row.now) }
     ensures line { IfOk result IsLine }
 {
-    let kind = kind_of(row)?;
-    if !is_allowed(kind, row.len()) {
+    let kind = read_kind(row, &KINDS)?;
+    if !allows(kind, row.len()) {
         return Err(Reason::Fields);
     }
-    read_by(kind, row)
+    line_by(kind, row)
 }

@@ -1,22 +1,24 @@
-ghost use Rattle.std.specs.Prelude.{◌≡◌, ◌≤◌, ◌==◌, [], None, IfOk, OnOk};
+ghost use Rattle.std.specs.Prelude.{◌≡◌, ◌≤◌, ◌+◌, ◌==◌, [], None, IfOk, OnOk};
 ghost use Rattle.std.specs.String.{string_bytes};
+ghost use Rattle.csv.specs.Records.{fields_of};
+ghost use Rattle.csv_records.specs.Grammar.{line_after};
+ghost use Rattle.csv_records.specs.TraceError.{Makes, numbered};
 ghost use Rattle.bound_agree.specs.declared.board.TheConstants.{MOST_SERVERS};
 ghost use Rattle.bound_agree.specs.Span.{SpanEnds};
-ghost use Rattle.csv.specs.Records.{fields_of};
-ghost use Rattle.agree_text.specs.Agreement.{Makes, step_of};
+ghost use Rattle.agree_text.specs.Agreement.{grammar, step_of};
 ghost use Rattle.agree_text.specs.Line.{IsLine};
-ghost use Rattle.agree_text.specs.Session.{fault_of, is_full, is_misplaced, is_ask as asks_something, line_after, session_of, taken};
+ghost use Rattle.agree_text.specs.Session.{fault_of, passes_limit, breaks_order, is_ask, session_of, taken};
 ghost use Rattle.agree_text.specs.declared.line.Line.TheVariants as lines;
 
 use crate::answers::{put_answer, put_header};
 use crate::limits::{MOST_ASKS, MOST_RECORDS};
-use crate::line::{Line, read_line};
+use crate::line::{Line, line_of};
 use bound_agree::{Board, Span};
 use clock_gate::Memory;
 use csv::ByteRecord;
+use csv_records::{Reason, TraceError, TraceFault};
 use std::alloc::Global;
 use std::marker::Model;
-use trace_reader::{Reason, TraceError, TraceFault};
 
 /// What the records so far come to: the board, the output, and how many records and how many questions they are.
 #[derive(Drop)]
@@ -41,7 +43,7 @@ impl Model for Session {
 }
 
 fn is_ask(line: &Line) -> bool
-    ensures { result ≡ asks_something line.now }
+    ensures { result ≡ is_ask line.now }
 {
     match line {
         Line::Header => false,
@@ -67,8 +69,8 @@ impl Session {
         })
     }
 
-    fn is_misplaced(&self, line: &Line) -> bool
-        ensures { result ≡ is_misplaced self.now line.now }
+    fn breaks_order(&self, line: &Line) -> bool
+        ensures { result ≡ breaks_order self.now line.now }
     {
         match line {
             Line::Header => self.lines != 0,
@@ -78,8 +80,8 @@ impl Session {
         }
     }
 
-    fn is_full(&self, line: &Line) -> bool
-        ensures { result ≡ is_full self.now line.now }
+    fn passes_limit(&self, line: &Line) -> bool
+        ensures { result ≡ passes_limit self.now line.now }
     {
         if self.lines > MOST_RECORDS {
             return true;
@@ -87,25 +89,25 @@ impl Session {
         is_ask(line) && self.asks >= MOST_ASKS
     }
 
-    fn fault(&self, line: &Line) -> Option<Reason>
+    fn fault_of(&self, line: &Line) -> Option<Reason>
         ensures { result ≡ fault_of self.now line.now }
     {
-        if self.is_misplaced(line) {
+        if self.breaks_order(line) {
             return Some(Reason::Order);
         }
-        if self.is_full(line) {
+        if self.passes_limit(line) {
             return Some(Reason::Limit);
         }
         None
     }
 
-    fn read(&self, row: &ByteRecord) -> Result<Line, Reason>
-        ensures value { result ≡ line_after self.now (fields_of row.now) }
+    fn line_after(&self, row: &ByteRecord) -> Result<Line, Reason>
+        ensures value { result ≡ line_after grammar self.now (fields_of row.now) }
         ensures line { IfOk result IsLine }
         ensures fits { IfOk result (λ line. fault_of self.now line ≡ None) }
     {
-        let line = read_line(row)?;
-        match self.fault(&line) {
+        let line = line_of(row)?;
+        match self.fault_of(&line) {
             None => Ok(line),
             Some(reason) => Err(reason),
         }
@@ -173,9 +175,9 @@ impl Session {
 
     /// Takes one record more.
     pub fn take(&mut self, alloc: Global, row: &ByteRecord) -> Result<(), TraceError>
-        ensures { Makes result self.new (step_of self.old (fields_of row.now)) }
+        ensures { Makes result self.new (numbered (self.old.lines + 1) (step_of self.old (fields_of row.now))) }
     {
-        let line = match self.read(row) {
+        let line = match self.line_after(row) {
             Ok(line) => line,
             Err(reason) => {
                 return Err(TraceError::Refused(TraceFault {

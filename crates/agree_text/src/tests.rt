@@ -1,7 +1,7 @@
 use crate::{MOST_ASKS, MOST_RECORDS, agree};
+use csv_records::{Reason, TraceError, TraceFault};
 use std::alloc::{AllocError, Global};
 use std::test::Fail;
-use trace_reader::{Reason, TraceError, TraceFault};
 
 fn tells(alloc: Global, text: &[u8], want: &[u8]) -> bool {
     match agree(alloc, text) {

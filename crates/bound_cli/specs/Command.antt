@@ -5,7 +5,7 @@ use Rattle.std.specs.Str.{bytes_eq}
 use Rattle.decode_text.specs.declared.what.What.TheVariants.{Reply, Page, Image}
 use Rattle.bound_order.specs.declared.lease.TheConstants.{LONGEST_LEASE}
 use Rattle.drill_day.specs.declared.limits.TheConstants.{FEWEST_DAY_POLLS, MOST_DAY_POLLS}
-use Rattle.trace_reader.specs.Fields.{number_in}
+use Rattle.csv_records.specs.Fields.{number_in}
 use Rattle.bound_cli.specs.declared.command.Command.{Command}
 use Rattle.bound_cli.specs.declared.command.Command.TheVariants.{Replay, Decode, Pagetime, Agree, Order, Drill, DrillTrace}
 use Rattle.bound_cli.specs.declared.times.Times.TheVariants.{Nanoseconds, Civil}

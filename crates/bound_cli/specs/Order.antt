@@ -4,15 +4,15 @@ use Rattle.std.specs.Prelude.{ℕ, List, ◌++◌, Result, Ok}
 use Rattle.bound_order.specs.declared.told.Told.{Told}
 use Rattle.bound_order.specs.Ordering.{order_of}
 use Rattle.clock_gate.specs.declared.trace.Trace.{Trace}
+use Rattle.csv_records.specs.Reason.{◌>>=◌}
+use Rattle.csv_records.specs.declared.trace_error.TraceFault.{TraceFault}
 use Rattle.order_text.specs.Told.{answers_told}
 use Rattle.order_text.specs.Lines.{order_text}
 use Rattle.run_promises.specs.Judged.{premises_of}
 use Rattle.abstract_run.specs.declared.event.Event.{Event}
 use Rattle.abstract_run.specs.RunWhole.{run_of}
 use Rattle.trace_reader.specs.Grammar.{trace_in}
-use Rattle.trace_reader.specs.declared.trace_error.TraceFault.{TraceFault}
 use Rattle.bound_cli.specs.Premises.{premises_line}
-use Rattle.bound_cli.specs.Replay.{◌>>=◌}
 
 -- the header, a line or two for each of these answers, which are ordered by leases of this length, and the counts
 abbrev pub told_text : ℕ → List Told → List ℕ

@@ -1,12 +1,12 @@
 -- What a command writes of the bytes of its input, or the fault of the first line that is refused.
 use Rattle.std.specs.Prelude.{ℕ, List, Result, Ok}
 use Rattle.std.specs.Option.{ok_or}
-use Rattle.agree_text.specs.Agreement.{agreement_text}
 use Rattle.drill_day.specs.Text.{day_text}
 use Rattle.decode_text.specs.DecodeText.{decode_text}
+use Rattle.csv_records.specs.declared.reason.Reason.TheVariants.{Hex}
+use Rattle.csv_records.specs.declared.trace_error.TraceFault.{TraceFault}
 use Rattle.pagetime_text.specs.Text.{pagetime_text}
-use Rattle.trace_reader.specs.declared.reason.Reason.TheVariants.{Hex}
-use Rattle.trace_reader.specs.declared.trace_error.TraceFault.{TraceFault}
+use Rattle.agree_text.specs.Agreement.{agreement_text}
 use Rattle.bound_cli.specs.declared.command.Command.{Command}
 use Rattle.bound_cli.specs.declared.command.Command.TheVariants.{Replay, Decode, Pagetime, Agree, Order, Drill, DrillTrace}
 use Rattle.bound_cli.specs.Drill.{drill_report}

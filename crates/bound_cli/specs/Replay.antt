@@ -1,6 +1,6 @@
 -- What is reported of a trace: a line for each event of its run, in the order in which they ended, their counts, and whether the
 -- promises that its answers rest on were kept.
-use Rattle.std.specs.Prelude.{ℕ, ◌+◌, ◌≤◌, List, [], ◌∷◌, ◌++◌, Result, Ok, Err}
+use Rattle.std.specs.Prelude.{ℕ, ◌+◌, ◌≤◌, List, [], ◌∷◌, ◌++◌, Result, Ok}
 use Rattle.std.specs.List.{flat_map}
 use Rattle.clock_gate.specs.declared.clock_status.ClockStatus.{ClockStatus}
 use Rattle.clock_gate.specs.declared.clock_status.ClockStatus.TheVariants.{Unknown, Synchronized, FreeRunning, Disrupted}
@@ -16,8 +16,9 @@ use Rattle.run_promises.specs.Judged.{premises_of}
 use Rattle.lawful_report.specs.declared.printed.Printed.{Printed}
 use Rattle.lawful_report.specs.declared.printed.Printed.TheVariants as lines
 use Rattle.lawful_report.specs.Lines.{line_text}
+use Rattle.csv_records.specs.Reason.{◌>>=◌}
+use Rattle.csv_records.specs.declared.trace_error.TraceFault.{TraceFault}
 use Rattle.trace_reader.specs.Grammar.{trace_in}
-use Rattle.trace_reader.specs.declared.trace_error.TraceFault.{TraceFault}
 use Rattle.bound_cli.specs.declared.times.Times.{Times}
 use Rattle.bound_cli.specs.declared.totals.Totals.{Totals}
 use Rattle.bound_cli.specs.Civil.{line_with}
@@ -98,12 +99,6 @@ report_text times trace events =
 -- the report of a trace: of the events of its run
 abbrev pub report_of : Times → Trace → List ℕ
 report_of times trace = report_text times trace (run_of trace).events
-
--- what was found goes into the next step; a fault stays the answer
-infixl 10 ◌>>=◌
-abbrev pub ◌>>=◌ : {A B : Type 0} → Result A TraceFault → (A → Result B TraceFault) → Result B TraceFault
-(Ok x) >>= f = f x
-(Err fault) >>= f = Err fault
 
 -- the report of a text, or the fault of its first refused line
 unfoldable pub replay_report : Times → List ℕ → Result (List ℕ) TraceFault

@@ -1,4 +1,4 @@
-use trace_reader::Reason;
+use csv_records::Reason;
 
 /// How a command ended. Its exit status stands beside each.
 #[derive(Clone, Copy, Debug, PartialEq, Eq, Hash)]

@@ -1,8 +1,8 @@
 use super::*;
 use clock_gate::{List, MemSink, MemSource};
+use csv_records::Reason;
 use std::alloc::{AllocError, Global};
 use std::test::Fail;
-use trace_reader::Reason;
 
 const TRACE: &str = "clockbound-trace,1
 clock,1000000000,1700000000000000000,1700000000000100000

@@ -8,9 +8,9 @@ ghost use Rattle.bound_cli.specs.Command.{alone, command_of, decode_of, drill_fo
 use crate::command::Command;
 use crate::times::Times;
 use bound_order::LONGEST_LEASE;
+use csv_records::number;
 use decode_text::What;
 use drill_day::{FEWEST_DAY_POLLS, MOST_DAY_POLLS};
-use trace_reader::number;
 
 fn alone(command: Command, next: u32, words: &[String]) -> Result<Command, u32>
     requires { IsAllowed command }

@@ -25,8 +25,8 @@ use Rattle.run_promises.specs.declared.premises.Premises.{Premises}
 use Rattle.run_promises.specs.declared.premises.Premises.TheVariants.{Held}
 use Rattle.run_promises.proofs.AnyRun.{any_marks, any_tells, whole_run_is_run}
 use Rattle.run_promises.proofs.KeptAnswers.{Tells, fits_judge, fresh_polls}
-use Rattle.day_promises.specs.Kept.{IsOfDay}
-use Rattle.day_promises.proofs.Kept.{day_keeps}
+use Rattle.day_runs.specs.Kept.{IsOfDay}
+use Rattle.day_runs.proofs.Kept.{day_keeps}
 use Rattle.day_runs.specs.DayRuns.{AnswersAreOfDay, DayRunsHold, WholeDaysHold}
 use Rattle.day_runs.proofs.Replies.{base_reaches}
 

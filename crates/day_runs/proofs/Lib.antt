@@ -1,2 +1,5 @@
+mod Clocks
+mod Hosts
+pub mod Kept
 mod Replies
 mod DayAnswers

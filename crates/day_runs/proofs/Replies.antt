@@ -20,8 +20,8 @@ use Rattle.status_machine.specs.declared.poll.Poll.{Poll}
 use Rattle.status_machine.specs.Poll.{base_of_good, base_of_heard, base_of_poll, heard_by, heard_of}
 use Rattle.abstract_run.specs.RunDaemon.{no_poll}
 use Rattle.abstract_run.specs.RunFacts.{given_by}
-use Rattle.day_promises.specs.Kept.{least_bound, units_of}
-use Rattle.day_promises.proofs.Kept.{replies_bound}
+use Rattle.day_runs.specs.Kept.{least_bound, units_of}
+use Rattle.day_runs.proofs.Kept.{replies_bound}
 
 -- ---- a reply is read as what it tells
 

@@ -6,7 +6,7 @@ use Rattle.abstract_run.specs.declared.event.Event.{Event}
 use Rattle.run_promises.specs.Judged.{EachTrusted, claim_of, premises_of}
 use Rattle.run_promises.specs.Runs.{IsRunOf}
 use Rattle.run_promises.specs.declared.premises.Premises.TheVariants.{Held}
-use Rattle.day_promises.specs.Kept.{IsOfDay}
+use Rattle.day_runs.specs.Kept.{IsOfDay}
 
 -- the claim of each answer that is looked at is one of the day
 abbrev pub AnswersAreOfDay : Type 0

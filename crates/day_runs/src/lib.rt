@@ -1,10 +1,12 @@
-//! Laws of the runs of a generated day: in every run, whatever the order of the parties' turns, the promises of all answers
-//! are kept.
+//! Laws of a generated day: its promises are kept, in every run, whatever the seed, the number of polls and the order of the
+//! parties' turns.
 //!
-//! `day_runs_hold` has no body: its contract is the law (`specs/DayRuns.antt`). Stands on `day_promises`, which has it that no
-//! test finds a fault of a claim of the day, and on `run_promises`, which says what claims the answers of a run make.
+//! No test finds a fault of a claim that is one of a day's run (`specs/Kept.antt`), each reply of the day bounds the clock's
+//! error by at least 244,141 ns, and every run of a day makes such claims (`specs/DayRuns.antt`). The functions here have no
+//! bodies: their contracts are laws that others cite. Stands on `drill_day`, whose day it speaks of, on `promise_judge`,
+//! which has the tests, and on `run_promises`, which says what claims the answers of a run make.
 #![tactic(auto)]
 
 mod laws;
 
-pub use laws::day_runs_hold;
+pub use laws::{day_keeps_its_promises, day_runs_hold, replies_bound_the_clock};

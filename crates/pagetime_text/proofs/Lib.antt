@@ -1,4 +1,3 @@
 pub mod Lines
 pub mod Spelled
-pub mod Stands
 pub mod Steps

@@ -1,16 +1,16 @@
 -- What the lines before a record say, and the tests of a record by these facts.
-use Rattle.std.specs.Prelude.{ℕ, ◌+◌, ◌==◌, ◌||◌, not, Bool, true, false, List, [], ◌∷◌, ◌++◌, length, filter_map, Option, Some, None, Result, Ok, Err, nat_le, if◌then◌else◌}
+use Rattle.std.specs.Prelude.{ℕ, ◌==◌, ◌||◌, not, Bool, true, false, List, length, filter_map, Option, Some, None, Result, Ok, Err, nat_le, if◌then◌else◌}
 use Rattle.std.specs.List.{list_any}
-use Rattle.trace_reader.specs.Records.{records_of}
-use Rattle.trace_reader.specs.declared.reason.Reason.{Reason}
-use Rattle.trace_reader.specs.declared.reason.Reason.TheVariants as reason
-use Rattle.trace_reader.specs.declared.trace_error.TraceFault.{TraceFault}
 use Rattle.vmclock_page.specs.ClockPage.{ClockPage}
+use Rattle.csv_records.specs.Grammar.{Grammar, said_by}
+use Rattle.csv_records.specs.Records.{records_of}
+use Rattle.csv_records.specs.declared.reason.Reason.{Reason}
+use Rattle.csv_records.specs.declared.reason.Reason.TheVariants as reason
+use Rattle.csv_records.specs.declared.trace_error.TraceFault.{TraceFault}
 use Rattle.vmclock_time.specs.declared.limits.TheConstants.{MOST_PAGE_ROWS}
 use Rattle.vmclock_time.specs.declared.rows.PageRow.{PageRow}
 use Rattle.vmclock_time.specs.declared.rows.PageRow.TheVariants as row
 use Rattle.pagetime_text.specs.Line.{line_of}
-use Rattle.pagetime_text.specs.Parts.{◌>>=◌}
 use Rattle.pagetime_text.specs.declared.line.Line.{Line}
 use Rattle.pagetime_text.specs.declared.line.Line.TheVariants as line
 
@@ -73,28 +73,18 @@ fault_of facts line =
     else if passes_limit facts line then Some reason.Limit
     else None
 
-abbrev pub unless : {A : Type 0} → Option Reason → A → Result A Reason
-unless None x = Ok x
-unless (Some reason) x = Err reason
-
--- the line of a record after these lines, or why it is refused
-abbrev pub line_after : List Line → List (List ℕ) → Result Line Reason
-line_after front rec = line_of rec >>= λ line. unless (fault_of (facts_of front) line) line
+-- each record is a line by itself, and is tested by the facts of the lines before it
+abbrev pub grammar : Grammar Line Facts
+grammar = record { line_of = line_of; facts_of = facts_of; fault_of = fault_of }
 
 -- a text without records is no trace
 abbrev pub ends : Facts → Result (List PageRow) TraceFault
 ends facts = if facts.count == 0 then Err (record { line = 1; reason = reason.Kind }) else Ok facts.rows
 
--- a line goes on, a refused record ends the reading
-abbrev pub goes : {A B : Type 0} → ℕ → Result A Reason → (A → Result B TraceFault) → Result B TraceFault
-goes number (Ok x) more = more x
-goes number (Err reason) more = Err (record { line = number; reason = reason })
-
--- the rows of these lines and of the records after them, or the first of these that is refused, with its first reason
-unfoldable pub rows_after : List Line → List (List (List ℕ)) → Result (List PageRow) TraceFault
-rows_after front [] = ends (facts_of front)
-rows_after front (rec ∷ rest) = goes (length front + 1) (line_after front rec) (λ line. rows_after (front ++ line ∷ []) rest)
+-- the rows that records say, or the first of these that is refused
+abbrev pub rows_said : List (List (List ℕ)) → Result (List PageRow) TraceFault
+rows_said records = said_by grammar ends records
 
 -- the rows that a text says, or its first refused record
 abbrev pub rows_in : List ℕ → Result (List PageRow) TraceFault
-rows_in bytes = rows_after [] (records_of bytes)
+rows_in bytes = rows_said (records_of bytes)

@@ -1,7 +1,6 @@
-pub mod Kinds
-pub mod Line
-pub mod Parts
 pub mod Facts
 pub mod Held
-pub mod Text
+pub mod Kind
 pub mod Laws
+pub mod Line
+pub mod Text

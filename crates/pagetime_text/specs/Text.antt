@@ -2,7 +2,7 @@
 use Rattle.std.specs.Prelude.{ℕ, List, ◌++◌, codes, decimal, Option, Some, None, Result, Ok, Err}
 use Rattle.std.specs.Fmt.{signed_decimal}
 use Rattle.std.specs.List.{flat_map}
-use Rattle.trace_reader.specs.declared.trace_error.TraceFault.{TraceFault}
+use Rattle.csv_records.specs.declared.trace_error.TraceFault.{TraceFault}
 use Rattle.vmclock_time.specs.PageReport.{failed_of, told_of}
 use Rattle.vmclock_time.specs.declared.fault.PageTimeFault.{PageTimeFault}
 use Rattle.vmclock_time.specs.declared.fault.PageTimeFault.TheVariants as fault

@@ -1,12 +1,12 @@
 //! The command.
-ghost use Rattle.trace_reader.specs.Errors.{Gives};
+ghost use Rattle.csv_records.specs.TraceError.{Gives};
 ghost use Rattle.pagetime_text.specs.Text.{pagetime_text};
 
 use crate::reading::read_rows;
 use crate::text::report_text;
 use clock_gate::List;
+use csv_records::TraceError;
 use std::alloc::Global;
-use trace_reader::TraceError;
 
 /// What is written of a text of pages and readings of their counters: a line for each reading, with the interval that the
 /// last page before it tells or why it tells none, and a last line that names the first reading whose true time breaks what

@@ -1,19 +1,18 @@
 //! What the lines so far say.
 ghost use Rattle.std.specs.Prelude.{◌≡◌, ◌+◌, ◌≤◌, [], None, OnOk, IfOk, length, vec_items};
 ghost use Rattle.csv.specs.Records.{fields_of};
-ghost use Rattle.trace_reader.specs.Errors.{Gives};
+ghost use Rattle.csv_records.specs.TraceError.{Gives, Makes, numbered};
 ghost use Rattle.vmclock_time.specs.Reads.{BeginsWithPage};
 ghost use Rattle.vmclock_time.specs.declared.limits.TheConstants.{MOST_PAGE_ROWS};
 ghost use Rattle.pagetime_text.specs.Facts.{Facts, breaks_order, breaks_page, ends, facts_of, fault_of, has_page, passes_limit};
-ghost use Rattle.pagetime_text.specs.Held.{Makes, numbered, step_of, taken};
+ghost use Rattle.pagetime_text.specs.Held.{step_of, taken};
 ghost use Rattle.pagetime_text.specs.declared.line.Line.TheVariants as line;
 
 use crate::line::{Line, line_of};
-use crate::refusal::Refusal;
 use csv::ByteRecord;
+use csv_records::{Reason, Refusal, TraceError, TraceFault};
 use std::alloc::{AllocError, Global};
 use std::marker::Model;
-use trace_reader::{Reason, TraceError, TraceFault};
 use vmclock_page::Page;
 use vmclock_time::{MOST_PAGE_ROWS, PageRow};
 
@@ -53,7 +52,7 @@ impl Held {
         !self.rows.is_empty()
     }
 
-    fn is_out_of_order(&self, line: &Line) -> bool
+    fn breaks_order(&self, line: &Line) -> bool
         ensures { result ≡ breaks_order self.now line.now }
     {
         match line {
@@ -63,7 +62,7 @@ impl Held {
         }
     }
 
-    fn is_too_many(&self, line: &Line) -> bool
+    fn passes_limit(&self, line: &Line) -> bool
         ensures { result ≡ passes_limit self.now line.now }
     {
         match line {
@@ -76,13 +75,13 @@ impl Held {
     fn fault_of(&self, line: &Line) -> Option<Reason>
         ensures { result ≡ fault_of self.now line.now }
     {
-        if self.is_out_of_order(line) {
+        if self.breaks_order(line) {
             return Some(Reason::Order);
         }
-        if is_no_page(line) {
+        if breaks_page(line) {
             return Some(Reason::Page);
         }
-        if self.is_too_many(line) {
+        if self.passes_limit(line) {
             return Some(Reason::Limit);
         }
         None
@@ -167,7 +166,7 @@ impl Held {
     }
 }
 
-fn is_no_page(line: &Line) -> bool
+fn breaks_page(line: &Line) -> bool
     ensures { result ≡ breaks_page line.now }
 {
     match line {

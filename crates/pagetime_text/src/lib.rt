@@ -1,20 +1,18 @@
 //! The command `pagetime`: what is told of a text of VMClock pages and readings of their counters.
 //!
-//! `pagetime` reads the text record by record, as csv does (`trace_reader`), and writes a line for each reading and one
+//! `pagetime` reads the text record by record (`csv_records`), and writes a line for each reading and one
 //! for the promises of the pages (`vmclock_time`), or names the first record that is refused. A record by itself says its
 //! line (`specs/Line.antt`), what the lines before it say decides whether it may stand there (`specs/Facts.antt`), and the
 //! text that is written stands in `specs/Text.antt`, byte for byte. `pagetime_laws` says the same of the records in the
-//! grammar's own words. Stands on `trace_reader` and `csv`, `vmclock_page`, `vmclock_time` and `clock_gate`.
+//! grammar's own words. Stands on `csv_records`, `vmclock_page`, `vmclock_time` and `clock_gate`.
 #![tactic(auto)]
 
 mod command;
 mod held;
-mod kinds;
+mod kind;
 mod laws;
 mod line;
-mod parts;
 mod reading;
-mod refusal;
 mod text;
 
 pub use command::pagetime;

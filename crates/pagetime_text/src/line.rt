@@ -1,16 +1,14 @@
 //! A record by itself: what it says, or the first of the tests that need no record before it.
 ghost use Rattle.std.specs.Prelude.{◌≡◌};
 ghost use Rattle.csv.specs.Records.{fields_of};
-ghost use Rattle.pagetime_text.specs.Line.{line_by, line_of, page_in, page_line, read_line};
-ghost use Rattle.pagetime_text.specs.Parts.{GivesLine};
+ghost use Rattle.csv_records.specs.Refusal.{Reads};
+ghost use Rattle.pagetime_text.specs.Line.{line_by, line_of, page_found, page_line, read_line};
 
-use crate::kinds::{Kind, allows, kind_in};
-use crate::parts::{bytes_part, number_part, optional_part};
-use crate::refusal::Refusal;
+use crate::kind::{KINDS, Kind, allows};
 use clock_gate::{LAST_MOMENT, MOST_PAGE_BYTES};
 use csv::ByteRecord;
+use csv_records::{Reason, Refusal, read_bytes, read_kind, read_number, read_optional};
 use std::alloc::Global;
-use trace_reader::Reason;
 use vmclock_page::{Page, read_page};
 
 /// What a record says.
@@ -25,34 +23,34 @@ pub enum Line {
 }
 
 // The page that these bytes are.
-fn page_in(bytes: &[u8]) -> Option<Page>
-    ensures { result ≡ page_in bytes.now }
+fn page_found(bytes: &[u8]) -> Option<Page>
+    ensures { result ≡ page_found bytes.now }
 {
     read_page(bytes).ok()
 }
 
 fn page_line(alloc: Global, row: &ByteRecord) -> Result<Line, Refusal>
-    ensures { GivesLine result (page_line (fields_of row.now)) }
+    ensures { Reads result (page_line (fields_of row.now)) }
 {
-    let bytes = bytes_part(alloc, row, 1, 2 * MOST_PAGE_BYTES)?;
-    let truth = optional_part(row, 2, LAST_MOMENT)?;
-    Ok(Line::Page(page_in(bytes.as_slice()), truth))
+    let bytes = read_bytes(alloc, row, 1, 2 * MOST_PAGE_BYTES)?;
+    let truth = read_optional(row, 2, 0, LAST_MOMENT)?;
+    Ok(Line::Page(page_found(bytes.as_slice()), truth))
 }
 
 fn read_line(row: &ByteRecord) -> Result<Line, Reason>
     ensures { result ≡ read_line (fields_of row.now) }
 {
-    let counter = number_part(row, 1, 0, u64::MAX)?;
-    let truth = optional_part(row, 2, LAST_MOMENT)?;
+    let counter = read_number(row, 1, 0, u64::MAX)?;
+    let truth = read_optional(row, 2, 0, LAST_MOMENT)?;
     Ok(Line::Read(counter, truth))
 }
 
 fn line_by(alloc: Global, kind: Kind, row: &ByteRecord) -> Result<Line, Refusal>
-    ensures { GivesLine result (line_by kind (fields_of row.now)) }
+    ensures { Reads result (line_by kind (fields_of row.now)) }
 {
     match kind {
         Kind::Header => {
-            number_part(row, 1, 1, 1)?;
+            read_number(row, 1, 1, 1)?;
             Ok(Line::Header)
         }
         Kind::Page => page_line(alloc, row),
@@ -63,9 +61,9 @@ fn line_by(alloc: Global, kind: Kind, row: &ByteRecord) -> Result<Line, Refusal>
 /// What a record says by itself.
 #[tactic(auto, unfolding(crate::specs::Line::line_of))]
 pub fn line_of(alloc: Global, row: &ByteRecord) -> Result<Line, Refusal>
-    ensures { GivesLine result (line_of (fields_of row.now)) }
+    ensures { Reads result (line_of (fields_of row.now)) }
 {
-    let kind = kind_in(row)?;
+    let kind = read_kind(row, &KINDS)?;
     if !allows(kind, row.len()) {
         return Err(Refusal::By(Reason::Fields));
     }

@@ -1,14 +1,14 @@
 //! The rows that a text says.
 ghost use Rattle.std.specs.Prelude.{◌≤◌, IfOk, length, vec_items};
-ghost use Rattle.trace_reader.specs.Errors.{Gives};
+ghost use Rattle.csv_records.specs.TraceError.{Gives};
 ghost use Rattle.vmclock_time.specs.Reads.{BeginsWithPage};
 ghost use Rattle.vmclock_time.specs.declared.limits.TheConstants.{MOST_PAGE_ROWS};
 ghost use Rattle.pagetime_text.specs.Facts.{rows_in};
 
 use crate::held::Held;
 use csv::ByteRecord;
+use csv_records::{Records, TraceError};
 use std::alloc::Global;
-use trace_reader::{Records, TraceError};
 use vmclock_time::PageRow;
 
 /// The rows that a text says, or its first refused record with the first reason to refuse it. A report can be made of

@@ -1,6 +1,6 @@
 use crate::pagetime;
+use csv_records::{Reason, TraceError, TraceFault};
 use std::alloc::{AllocError, Global};
-use trace_reader::{Reason, TraceError, TraceFault};
 
 // A page of a counter of about 2^30 ticks a second, half a second after 1,700,000,000 s.
 const PAGE: [u8; 208] =

@@ -5,13 +5,13 @@ ghost use Rattle.abstract_run.specs.Given.{CanRun};
 ghost use Rattle.abstract_run.specs.declared.limits.TheConstants.{MOST_EVENTS};
 
 use crate::{judged_run, premises};
-use abstract_run::Event;
+use abstract_run::{Event, given};
 use clock_gate::{Memory, Trace};
 use promise_judge::Why;
 use run_promises::{Premises, any_run};
 use std::alloc::{AllocError, Global};
 use std::test::Fail;
-use step_core::World;
+use step_core::{World, words_show};
 use trace_reader::{TraceError, read_trace};
 
 // A tracking reply: its bound is 244,142 ns.
@@ -70,6 +70,8 @@ fn verdict_on(
 fn verdict_of_run(alloc: Global, trace: &Trace) -> Result<Option<Premises>, AllocError>
     requires { CanRun trace.now }
 {
+    given(trace);
+    words_show();
     let mut world = match World::new(alloc, trace) {
         Ok(world) => world,
         Err(Memory) => return Err(AllocError),

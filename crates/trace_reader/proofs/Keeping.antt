@@ -2,24 +2,25 @@
 use Rattle.std.proofs.Common.{◌≡◌, ℕ, List, [], ◌∷◌, ◌++◌, Option, Some, None, Result, Ok, Err, refl, sym, subst}
 use Rattle.std.proofs.lemmas.List.{append-nil}
 use Rattle.clock_gate.specs.declared.trace.Trace.{Trace}
+use Rattle.csv_records.specs.Grammar.{Accepts}
+use Rattle.csv_records.specs.Reason.{◌>>=◌, unless}
+use Rattle.csv_records.specs.declared.reason.Reason.{Reason}
+use Rattle.csv_records.proofs.GrammarLaws.{one_more}
 use Rattle.trace_reader.specs.Checks.{fault_of}
 use Rattle.trace_reader.specs.Facts.{Facts, facts_of, no_facts}
-use Rattle.trace_reader.specs.Grammar.{end_fault, trace_after, trace_of, unless}
-use Rattle.trace_reader.specs.Laws.{Accepts}
-use Rattle.trace_reader.specs.Lines.{line_of}
-use Rattle.trace_reader.specs.Parts.{◌>>>◌}
-use Rattle.trace_reader.specs.Steps.{taken}
+use Rattle.trace_reader.specs.Grammar.{end_fault, grammar, trace_of, trace_said}
+use Rattle.trace_reader.specs.Line.{line_of}
+use Rattle.trace_reader.specs.Held.{taken}
 use Rattle.trace_reader.specs.declared.line.Line.{Line}
-use Rattle.trace_reader.specs.declared.reason.Reason.{Reason}
 use Rattle.trace_reader.proofs.Ranges.{IsSound, line_of-sound}
-use Rattle.trace_reader.proofs.Spelled.{one_more, traces_say}
+use Rattle.trace_reader.proofs.Spelled.{traces_say}
 use Rattle.trace_reader.proofs.Steps.{facts_more}
 
 abbrev ok_line : Line → Result Line Reason
 ok_line line = Ok line
 
 -- a record that passes is its line, and the line has no fault
-passed : (facts : Facts) (r : Result Line Reason) (line : Line) → (r >>> λ l. unless (fault_of facts l) l) ≡ Ok line → (r ≡ ok_line line) × (fault_of facts line ≡ None)
+pub passed : (facts : Facts) (r : Result Line Reason) (line : Line) → (r >>= λ l. unless (fault_of facts l) l) ≡ Ok line → (r ≡ ok_line line) × (fault_of facts line ≡ None)
 passed facts (Err reason) line e = absurd cc
 passed facts (Ok l) line e = by (fault_of facts l) refl e
   where
@@ -32,7 +33,7 @@ abbrev pub KeptByEach : (Facts → Type 0) → Type 0
 KeptByEach P = (facts : Facts) (line : Line) → IsSound line → fault_of facts line ≡ None → P facts → P (taken facts line)
 
 keeps : (P : Facts → Type 0) → KeptByEach P → (front : List Line) (records : List (List (List ℕ))) (lines : List Line)
-    → Accepts front records lines → P (facts_of front) → P (facts_of (front ++ lines))
+    → Accepts grammar front records lines → P (facts_of front) → P (facts_of (front ++ lines))
 unfolding Accepts
 keeps P step front [] lines accepted h = rw (accepted, append-nil front) h
 keeps P step front (fields ∷ rest) [] accepted h = absurd accepted
@@ -43,7 +44,7 @@ keeps P step front (fields ∷ rest) (line ∷ lines) accepted h =
 
 -- a trace is that of facts that keep this, and it has a row of the clock
 pub kept_by : (P : Facts → Type 0) → P no_facts → KeptByEach P
-    → (records : List (List (List ℕ))) (trace : Trace) → trace_after [] records ≡ Ok trace
+    → (records : List (List (List ℕ))) (trace : Trace) → trace_said records ≡ Ok trace
     → (facts : Facts) × P facts × (end_fault facts ≡ None) × (trace ≡ trace_of facts)
 kept_by P none step records trace e =
     let says = (traces_say records trace).0 e in

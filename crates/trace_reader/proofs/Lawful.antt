@@ -16,23 +16,23 @@ use Rattle.clock_gate.specs.declared.trace.Trace.{Trace}
 use Rattle.clock_gate.specs.declared.trace.Turn.{Turn}
 use Rattle.generation_word.specs.declared.layout.Layout.{Layout}
 use Rattle.generation_word.specs.declared.layout.Layout.TheVariants.{Two, Three}
-use Rattle.segment_layout.specs.Image.{image_of}
 use Rattle.vmclock_page.specs.Bounds.{KeepsBounds}
 use Rattle.vmclock_page.specs.ClockPage.{ClockPage}
 use Rattle.vmclock_page.specs.Rows.{ArePageRows, IsRowOf, IsStartPage}
+use Rattle.segment_layout.specs.Image.{image_of}
+use Rattle.csv_records.specs.TraceError.{Answers}
+use Rattle.csv_records.specs.Records.{records_of}
+use Rattle.csv_records.specs.declared.reason.Reason.{Reason}
+use Rattle.csv_records.specs.declared.reason.Reason.TheVariants as reasons
+use Rattle.csv_records.specs.declared.trace_error.TraceError.{TraceError}
+use Rattle.csv_records.specs.declared.trace_error.TraceFault.{TraceFault}
 use Rattle.trace_reader.specs.Checks.{breaks_image, breaks_order, breaks_page, fault_of, goes_back, has_clock, lacks_clock, last_mono, layout_held, passes_limit}
-use Rattle.trace_reader.specs.Errors.{Answers}
 use Rattle.trace_reader.specs.Facts.{Facts, calls_of, clocks_of, first_in, gathered, given, host_of, no_facts, order_of, page_from, polls_of, schedule_of, words_of_page}
 use Rattle.trace_reader.specs.Grammar.{end_fault, trace_in, trace_of}
 use Rattle.trace_reader.specs.Laws.{IsRunnable, TracesAreRunnable}
-use Rattle.trace_reader.specs.Records.{records_of}
-use Rattle.trace_reader.specs.Steps.{kept, taken}
+use Rattle.trace_reader.specs.Held.{kept, taken}
 use Rattle.trace_reader.specs.declared.line.Line.{Line}
 use Rattle.trace_reader.specs.declared.line.Line.TheVariants as lines
-use Rattle.trace_reader.specs.declared.reason.Reason.{Reason}
-use Rattle.trace_reader.specs.declared.reason.Reason.TheVariants as reasons
-use Rattle.trace_reader.specs.declared.trace_error.TraceError.{TraceError}
-use Rattle.trace_reader.specs.declared.trace_error.TraceFault.{TraceFault}
 use Rattle.trace_reader.proofs.Keeping.{KeptByEach, kept_by}
 use Rattle.trace_reader.proofs.Last.{turns_more}
 use Rattle.trace_reader.proofs.Order.{Names, names_call, names_host, names_poll}

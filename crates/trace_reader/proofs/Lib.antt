@@ -1,17 +1,11 @@
-pub mod Ahead
-pub mod Digits
 pub mod Keeping
 pub mod Last
-pub mod Lines
-pub mod Numerals
 pub mod Lawful
-pub mod Loop
 pub mod Order
 pub mod Pages
 pub mod PagesKept
 pub mod Ranges
 pub mod Rows
-pub mod Shortens
 pub mod Spelled
 pub mod Steps
 pub mod Within

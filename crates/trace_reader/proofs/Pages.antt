@@ -18,7 +18,7 @@ use Rattle.vmclock_page.proofs.Agree.{each_byte, page_of-words}
 use Rattle.vmclock_page.proofs.Back.{fields_back, magic_back, pads_back, read_back, version_back, whole}
 use Rattle.vmclock_page.proofs.WordLemmas.{number-at, words_of-fields}
 use Rattle.trace_reader.specs.Facts.{words_of_page}
-use Rattle.trace_reader.specs.Lines.{page_found}
+use Rattle.trace_reader.specs.Line.{page_found}
 
 -- a number of so many bytes
 number_1 : (bytes : List ℕ) (place : ℕ) → IsBytes bytes → number 1 place bytes < 2 ^ 8

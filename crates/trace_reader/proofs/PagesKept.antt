@@ -15,9 +15,10 @@ use Rattle.vmclock_page.specs.Bounds.{KeepsBounds}
 use Rattle.vmclock_page.specs.ClockPage.{ClockPage}
 use Rattle.vmclock_page.specs.Constants.{has_constants_of}
 use Rattle.vmclock_page.specs.Rows.{ArePageRows, IsRowOf}
+use Rattle.csv_records.specs.Step.{joined}
 use Rattle.trace_reader.specs.Checks.{is_of_start}
 use Rattle.trace_reader.specs.Facts.{given, marked, page_row, words_of_page}
-use Rattle.trace_reader.specs.Steps.{joined, kept}
+use Rattle.trace_reader.specs.Held.{kept}
 use Rattle.trace_reader.proofs.Order.{Names, names_first, names_host}
 use Rattle.trace_reader.proofs.Pages.{words_of_page-back}
 use Rattle.trace_reader.proofs.Rows.{All-more, IsHostSoFar, host_other, host_some}

@@ -1,13 +1,7 @@
 -- What a line that was read keeps by itself.
-use Rattle.std.proofs.Common.{◌≡◌, ◌≤◌, ◌<◌, ◌*◌, ◌^◌, ℕ, Bool, true, false, cond, List, [], ◌∷◌, length, Option, Some, None, Result, Ok, Err, refl, sym, subst, arith}
-use Rattle.std.specs.Prelude.{⊤, ◌-◌, IfSome, codes, nat_le, ◌==◌, option_map}
+use Rattle.std.proofs.Common.{◌≡◌, ◌≤◌, ◌<◌, ◌*◌, ◌^◌, ℕ, Bool, true, false, cond, List, [], ◌∷◌, length, Option, Some, None, Ok, Err, refl, subst, arith}
+use Rattle.std.specs.Prelude.{⊤, ◌-◌, IfSome, codes, ◌==◌, option_map}
 use Rattle.std.specs.Str.{bytes_eq}
-use Rattle.segment_layout.specs.Words.{words_of_image}
-use Rattle.std.specs.Result.{result_ok}
-use Rattle.std.proofs.lemmas.Bool.Decides.{nat_tests}
-use Rattle.csv.specs.Records.{field_at}
-use Rattle.hex.specs.Hex.{IsBytes, decode_of}
-use Rattle.hex.proofs.HexLemmas.{decode_of-ok}
 use Rattle.clock_gate.specs.Trace.{IsClient, IsClockRow, IsFrom, IsParty, IsPollRow, IsTurn}
 use Rattle.clock_gate.specs.declared.clock_row.ClockRow.{ClockRow}
 use Rattle.clock_gate.specs.declared.limits.TheConstants.{LAST_MOMENT, MOST_CLIENTS, MOST_DRIFT, MOST_OF_A_LINE, MOST_PAGE_BYTES, MOST_REPLY_BYTES, MOST_STORES, MOST_TRIES}
@@ -17,16 +11,18 @@ use Rattle.clock_gate.specs.declared.trace.PollRow.{PollRow}
 use Rattle.clock_gate.specs.declared.trace.Turn.{Turn}
 use Rattle.clock_gate.specs.declared.trace.Turn.TheVariants as turns
 use Rattle.vmclock_page.specs.Bounds.{KeepsBounds}
-use Rattle.trace_reader.specs.Fields.{bytes_in, number_in}
-use Rattle.trace_reader.specs.Kinds.{kind_in, or_reason}
-use Rattle.trace_reader.specs.Lines.{allows, clock_row_in, image_by, jobs_in, layout_named, line_by, line_of, page_found, poll_row_in, run_in}
-use Rattle.trace_reader.specs.Parts.{◌>>>◌, bytes_by, bytes_part, client_named, client_number, number_by, number_part, optional_by, optional_part, party_by, party_named, party_part, told}
-use Rattle.trace_reader.specs.declared.kinds.Kind.{Kind}
-use Rattle.trace_reader.specs.declared.kinds.Kind.TheVariants as kinds
+use Rattle.segment_layout.specs.Words.{words_of_image}
+use Rattle.csv_records.specs.Fields.{number_in}
+use Rattle.csv_records.specs.Parts.{bytes_part, number_part, optional_part}
+use Rattle.csv_records.specs.declared.reason.Reason.TheVariants as reasons
+use Rattle.csv_records.proofs.Ranges.{bytes_part-within, number_in-within, number_part-within, optional_part-within, part_at-said, then_ok}
+use Rattle.trace_reader.specs.Kind.{allows, kind_in}
+use Rattle.trace_reader.specs.Line.{clock_row_in, image_by, jobs_in, layout_named, line_by, line_of, page_found, poll_row_in, run_in}
+use Rattle.trace_reader.specs.Party.{client_named, client_number, party_named, party_part}
+use Rattle.trace_reader.specs.declared.kind.Kind.{Kind}
+use Rattle.trace_reader.specs.declared.kind.Kind.TheVariants as kinds
 use Rattle.trace_reader.specs.declared.line.Line.{Line}
 use Rattle.trace_reader.specs.declared.line.Line.TheVariants as lines
-use Rattle.trace_reader.specs.declared.reason.Reason.{Reason}
-use Rattle.trace_reader.specs.declared.reason.Reason.TheVariants as reasons
 use Rattle.trace_reader.proofs.Pages.{page_found-bounds}
 
 -- the numbers of a line are in their ranges
@@ -43,60 +39,6 @@ IsSound lines.Disrupt = ⊤
 IsSound (lines.Poll row) = IsPollRow row
 IsSound (lines.Call client tries) = IsClient client × IfSome tries (IsFrom 1 MOST_TRIES)
 IsSound (lines.Turns turn) = IsTurn turn
-
--- a part that gave something, and what came of it
-then_ok : {A B : Type 0} (r : Result A Reason) (next : A → Result B Reason) (y : B) → (r >>> next) ≡ Ok y → (x : A) × (r ≡ Ok x) × (next x ≡ Ok y)
-then_ok (Ok x) next y e = (x, refl, e)
-then_ok (Err reason) next y e = absurd cc
-
-ok_or_reason : {A : Type 0} (reason : Reason) (o : Option A) (x : A) → or_reason reason o ≡ Ok x → o ≡ Some x
-ok_or_reason reason (Some y) x e = cc e
-ok_or_reason reason None x e = absurd cc
-
-number_in-within : (low high : ℕ) (field : List ℕ) (n : ℕ) → number_in low high field ≡ Some n → IsFrom low high n
-unfolding number_in
-number_in-within low high field n e = grind (arith, nat_tests)
-
-number_part-within : (low high place : ℕ) (fields : List (List ℕ)) (n : ℕ) → number_part low high place fields ≡ Ok n → IsFrom low high n
-number_part-within low high place fields n e = by (field_at fields place) e
-  where
-    by : (field : Option (List ℕ)) → number_by low high field ≡ Ok n → IsFrom low high n
-    by None e = absurd cc
-    by (Some field) e = number_in-within low high field n (ok_or_reason _ _ _ e)
-
-told-some : {A : Type 0} (o found : Option A) → told o ≡ Ok found → o ≡ found
-told-some None found e = absurd cc
-told-some (Some x) found e = cc e
-
-optional_part-within : (low high place : ℕ) (fields : List (List ℕ)) (found : Option ℕ) → optional_part low high place fields ≡ Ok found → IfSome found (IsFrom low high)
-optional_part-within low high place fields None e = tt
-optional_part-within low high place fields (Some n) e = by (field_at fields place) e
-  where
-    by : (field : Option (List ℕ)) → optional_by low high field ≡ Ok (Some n) → IsFrom low high n
-    by None e = absurd cc
-    by (Some field) e = number_in-within low high field n (told-some _ _ e)
-
--- bytes are no more than half of the digits, and each is a byte
-bytes_in-within : (most : ℕ) (field bytes : List ℕ) → bytes_in most field ≡ Some bytes → (2 * length bytes ≤ most) × IsBytes bytes
-unfolding bytes_in
-bytes_in-within most field bytes e = by (nat_le (length field) most) refl (decode_of field) refl e
-  where
-    by : (short : Bool) → nat_le (length field) most ≡ short → (r : Result (List ℕ) _) → decode_of field ≡ r → cond short (result_ok r) None ≡ Some bytes
-        → (2 * length bytes ≤ most) × IsBytes bytes
-    by false is r decoded e = absurd cc
-    by true is (Err _) decoded e = absurd cc
-    by true is (Ok found) decoded e =
-        let same : found ≡ bytes = cc e in
-        let ok = decode_of-ok field bytes (rw (sym same) decoded) in
-        let short : length field ≤ most = grind (arith, nat_tests, is) in
-        (omega (arith, short, ok.2), ok.3)
-
-bytes_part-within : (most place : ℕ) (fields : List (List ℕ)) (bytes : List ℕ) → bytes_part most place fields ≡ Ok bytes → (2 * length bytes ≤ most) × IsBytes bytes
-bytes_part-within most place fields bytes e = by (field_at fields place) e
-  where
-    by : (field : Option (List ℕ)) → bytes_by most field ≡ Ok bytes → (2 * length bytes ≤ most) × IsBytes bytes
-    by None e = absurd cc
-    by (Some field) e = bytes_in-within most field bytes (ok_or_reason _ _ _ e)
 
 client_number-client : (digits : List ℕ) (party : Party) → client_number digits ≡ Some party → IsParty party
 client_number-client [] party e = absurd cc
@@ -127,11 +69,9 @@ party_named-party field party e = by (bytes_eq field (codes "h")) (bytes_eq fiel
     by false false e = client_named-client field party e
 
 party_part-party : (place : ℕ) (fields : List (List ℕ)) (party : Party) → party_part place fields ≡ Ok party → IsParty party
-party_part-party place fields party e = by (field_at fields place) e
-  where
-    by : (field : Option (List ℕ)) → party_by field ≡ Ok party → IsParty party
-    by None e = absurd cc
-    by (Some field) e = party_named-party field party (ok_or_reason _ _ _ e)
+party_part-party place fields party e =
+    let (field, says) = part_at-said reasons.Number party_named place fields party e in
+    party_named-party field party says
 
 clock_row-sound : (fields : List (List ℕ)) (row : ClockRow) → clock_row_in fields ≡ Ok row → IsClockRow row
 clock_row-sound fields row e =

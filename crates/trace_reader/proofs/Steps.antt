@@ -1,19 +1,16 @@
 -- One line more.
-use Rattle.std.proofs.Common.{◌≡◌, ◌∙◌, ℕ, ◌+◌, List, [], ◌∷◌, ◌++◌, length, Option, Some, None, Result, Ok, Err, refl, sym, ap, rules, append_assoc}
+use Rattle.std.proofs.Common.{◌≡◌, ◌∙◌, List, [], ◌∷◌, ◌++◌, length, Option, Some, None, refl, rules, append_assoc}
 use Rattle.std.specs.Prelude.{filter_map}
 use Rattle.std.specs.List.{cons_option}
 use Rattle.std.proofs.lemmas.List.{length-append}
 use Rattle.std.proofs.lemmas.List.Elements.{filter_map-append}
 use Rattle.vmclock_page.specs.ClockPage.{ClockPage}
-use Rattle.trace_reader.specs.Checks.{fault_of}
-use Rattle.trace_reader.specs.Facts.{Facts, call_at, calls_of, clock_in, clocks_of, drift_in, facts_of, first_in, first_of, gathered, host_at, host_of, image_in, job_at, layout_in, order_of, page_from, page_in, page_next, poll_in, polls_of, schedule_of, tries_in, turn_in}
-use Rattle.trace_reader.specs.Grammar.{goes_on, trace_after, unless}
-use Rattle.trace_reader.specs.Lines.{line_of}
-use Rattle.trace_reader.specs.Parts.{◌>>>◌}
-use Rattle.trace_reader.specs.Steps.{joined, kept, numbered, step_of, taken}
+use Rattle.csv_records.specs.Step.{joined}
+use Rattle.csv_records.proofs.Reading.{GoesOn}
+use Rattle.trace_reader.specs.Facts.{call_at, calls_of, clock_in, clocks_of, drift_in, facts_of, first_in, first_of, gathered, host_at, host_of, image_in, job_at, layout_in, order_of, page_from, page_in, page_next, poll_in, polls_of, schedule_of, tries_in, turn_in}
+use Rattle.trace_reader.specs.Grammar.{grammar}
+use Rattle.trace_reader.specs.Held.{kept, taken}
 use Rattle.trace_reader.specs.declared.line.Line.{Line}
-use Rattle.trace_reader.specs.declared.reason.Reason.{Reason}
-use Rattle.trace_reader.specs.declared.trace_error.TraceFault.{TraceFault}
 
 cons_option-joined : {X : Type 0} (o p : Option X) (xs : List X) → cons_option o (joined xs p) ≡ joined (cons_option o xs) p
 cons_option-joined None p xs = refl
@@ -98,47 +95,5 @@ facts_more front line =
       order_more front line,
     ) refl
 
-abbrev err_of : {A B : Type 0} → B → Result A B
-err_of x = Err x
-
-err_same : {A B C : Type 0} (x y : B) → err_of {A = A} x ≡ err_of {A = A} y → err_of {A = C} x ≡ err_of {A = C} y
-err_same {A = A} {B = B} {C = C} x y e = ap (λ (r : Result A B). other r) e
-  where
-    other : Result A B → Result C B
-    other (Ok z) = Err x
-    other (Err d) = Err d
-
--- what a record's step says of the records after it
-pub stepped : (front : List Line) (fields : List (List ℕ)) (rest : List (List (List ℕ))) (new : Facts)
-    → numbered (length front + 1) (step_of (facts_of front) fields) ≡ Ok new
-    → (line : Line) × (new ≡ facts_of (front ++ line ∷ [])) × (trace_after front (fields ∷ rest) ≡ trace_after (front ++ line ∷ []) rest)
-unfolding trace_after step_of
-stepped front fields rest new e = by (line_of fields) refl e
-  where
-    by_fault : (line : Line) (fault : Option Reason) → line_of fields ≡ Ok line → fault_of (facts_of front) line ≡ fault
-        → numbered (length front + 1) (unless fault (taken (facts_of front) line)) ≡ Ok new
-        → (line : Line) × (new ≡ facts_of (front ++ line ∷ [])) × (trace_after front (fields ∷ rest) ≡ trace_after (front ++ line ∷ []) rest)
-    by_fault line None is passes e =
-        let same : taken (facts_of front) line ≡ new = cc e in
-        (line, sym same ∙ sym (facts_more front line), rw (is, passes) refl)
-    by_fault line (Some reason) is fails e = absurd cc
-
-    by : (r : Result Line Reason) → line_of fields ≡ r → numbered (length front + 1) (r >>> λ line. unless (fault_of (facts_of front) line) (taken (facts_of front) line)) ≡ Ok new
-        → (line : Line) × (new ≡ facts_of (front ++ line ∷ [])) × (trace_after front (fields ∷ rest) ≡ trace_after (front ++ line ∷ []) rest)
-    by (Ok line) is e = by_fault line (fault_of (facts_of front) line) is refl e
-    by (Err reason) is e = absurd cc
-
-pub refused : (front : List Line) (fields : List (List ℕ)) (rest : List (List (List ℕ))) (fault : TraceFault)
-    → numbered (length front + 1) (step_of (facts_of front) fields) ≡ Err fault → trace_after front (fields ∷ rest) ≡ Err fault
-unfolding trace_after step_of
-refused front fields rest fault e = by (line_of fields) e refl
-  where
-    by_fault : (line : Line) (o : Option Reason) → numbered (length front + 1) (unless o (taken (facts_of front) line)) ≡ Err fault → fault_of (facts_of front) line ≡ o
-        → goes_on (length front + 1) (unless o line) (λ line. trace_after (front ++ line ∷ []) rest) ≡ Err fault
-    by_fault line None e is = absurd cc
-    by_fault line (Some reason) e is = err_same _ _ e
-
-    by : (r : Result Line Reason) → numbered (length front + 1) (r >>> λ line. unless (fault_of (facts_of front) line) (taken (facts_of front) line)) ≡ Err fault → line_of fields ≡ r
-        → goes_on (length front + 1) (r >>> λ line. unless (fault_of (facts_of front) line) line) (λ line. trace_after (front ++ line ∷ []) rest) ≡ Err fault
-    by (Ok line) e is = by_fault line (fault_of (facts_of front) line) e refl
-    by (Err reason) e is = err_same _ _ e
+pub goes_on : GoesOn grammar taken (λ facts. facts.count)
+goes_on = record { more = facts_more; counted = λ front. refl }

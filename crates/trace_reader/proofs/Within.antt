@@ -7,7 +7,7 @@ use Rattle.clock_gate.specs.declared.limits.TheConstants.{MOST_SCHEDULE_LINES, M
 use Rattle.clock_gate.specs.declared.trace.Turn.{Turn}
 use Rattle.trace_reader.specs.Checks.{fault_of}
 use Rattle.trace_reader.specs.Facts.{Facts}
-use Rattle.trace_reader.specs.Steps.{IsWithin, taken}
+use Rattle.trace_reader.specs.Held.{IsWithin, taken}
 use Rattle.trace_reader.specs.declared.line.Line.TheVariants as lines
 use Rattle.trace_reader.proofs.Last.{turns_more}
 

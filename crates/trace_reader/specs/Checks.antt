@@ -6,14 +6,14 @@ use Rattle.clock_gate.specs.declared.limits.TheConstants.{MOST_CALLS, MOST_HOST_
 use Rattle.clock_gate.specs.declared.trace.Turn.{Turn}
 use Rattle.generation_word.specs.declared.layout.Layout.{Layout}
 use Rattle.generation_word.specs.declared.layout.Layout.TheVariants.{Two}
-use Rattle.segment_layout.specs.Image.{image_of}
 use Rattle.vmclock_page.specs.ClockPage.{ClockPage}
 use Rattle.vmclock_page.specs.Constants.{has_constants_of}
+use Rattle.segment_layout.specs.Image.{image_of}
+use Rattle.csv_records.specs.declared.reason.Reason.{Reason}
+use Rattle.csv_records.specs.declared.reason.Reason.TheVariants as reasons
 use Rattle.trace_reader.specs.Facts.{Facts, given}
 use Rattle.trace_reader.specs.declared.line.Line.{Line}
 use Rattle.trace_reader.specs.declared.line.Line.TheVariants as lines
-use Rattle.trace_reader.specs.declared.reason.Reason.{Reason}
-use Rattle.trace_reader.specs.declared.reason.Reason.TheVariants as reasons
 
 abbrev pub is_first : Facts → Bool
 is_first facts = facts.count == 0

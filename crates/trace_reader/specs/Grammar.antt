@@ -1,26 +1,20 @@
 -- The trace of a text, or its first refused record and the first reason to refuse it.
-use Rattle.std.specs.Prelude.{ℕ, ◌+◌, ◌==◌, List, [], ◌∷◌, ◌++◌, length, replicate, Option, Some, None, option_map, Result, Ok, Err, if◌then◌else◌}
+use Rattle.std.specs.Prelude.{ℕ, ◌+◌, ◌==◌, List, length, replicate, Option, Some, None, option_map, Result, Ok, Err, if◌then◌else◌}
 use Rattle.clock_gate.specs.Trace.{largest_client}
 use Rattle.clock_gate.specs.declared.limits.TheConstants.{USUAL_DRIFT, USUAL_TRIES}
 use Rattle.clock_gate.specs.declared.trace.Trace.{Trace}
+use Rattle.csv_records.specs.Grammar.{Grammar, said_by}
+use Rattle.csv_records.specs.Records.{records_of}
+use Rattle.csv_records.specs.declared.reason.Reason.TheVariants as reasons
+use Rattle.csv_records.specs.declared.trace_error.TraceFault.{TraceFault}
 use Rattle.trace_reader.specs.Checks.{fault_of, is_first, layout_held}
 use Rattle.trace_reader.specs.Facts.{Facts, facts_of, given, words_of_page}
-use Rattle.trace_reader.specs.Lines.{line_of}
-use Rattle.trace_reader.specs.Parts.{◌>>>◌}
-use Rattle.trace_reader.specs.Records.{records_of}
+use Rattle.trace_reader.specs.Line.{line_of}
 use Rattle.trace_reader.specs.declared.line.Line.{Line}
-use Rattle.trace_reader.specs.declared.reason.Reason.{Reason}
-use Rattle.trace_reader.specs.declared.reason.Reason.TheVariants as reasons
-use Rattle.trace_reader.specs.declared.trace_error.TraceFault.{TraceFault}
 
--- a value, where there is no reason against it
-abbrev pub unless : {X : Type 0} → Option Reason → X → Result X Reason
-unless None x = Ok x
-unless (Some reason) x = Err reason
-
--- the line that a record is after these lines, or why it is refused
-abbrev pub line_after : List Line → List (List ℕ) → Result Line Reason
-line_after front fields = line_of fields >>> λ line. unless (fault_of (facts_of front) line) line
+-- each record is a line by itself, and is tested by the facts of the lines before it
+abbrev pub grammar : Grammar Line Facts
+grammar = record { line_of = line_of; facts_of = facts_of; fault_of = fault_of }
 
 -- what is amiss where the records end: there is none, or no row of the clock
 abbrev pub end_fault : Facts → Option TraceFault
@@ -50,17 +44,10 @@ abbrev pub ends : Option TraceFault → Facts → Result Trace TraceFault
 ends None facts = Ok (trace_of facts)
 ends (Some fault) facts = Err fault
 
--- a refused record is the end, and a line goes on
-abbrev pub goes_on : {X : Type 0} → ℕ → Result Line Reason → (Line → Result X TraceFault) → Result X TraceFault
-goes_on number (Ok line) more = more line
-goes_on number (Err reason) more = Err (record { line = number; reason = reason })
-
--- the trace of the records that follow these lines, or the first of them that is refused
-unfoldable pub trace_after : List Line → List (List (List ℕ)) → Result Trace TraceFault
-trace_after front [] = ends (end_fault (facts_of front)) (facts_of front)
-trace_after front (fields ∷ rest) =
-    goes_on (length front + 1) (line_after front fields) (λ line. trace_after (front ++ line ∷ []) rest)
+-- the trace of some records, or the first of them that is refused
+abbrev pub trace_said : List (List (List ℕ)) → Result Trace TraceFault
+trace_said records = said_by grammar (λ facts. ends (end_fault facts) facts) records
 
 -- the trace of a text
 abbrev pub trace_in : List ℕ → Result Trace TraceFault
-trace_in bytes = trace_after [] (records_of bytes)
+trace_in bytes = trace_said (records_of bytes)

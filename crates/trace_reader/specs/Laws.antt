@@ -1,54 +1,37 @@
 -- The grammar in its own words: each record passes after those before it, up to the first that doesn't.
-use Rattle.std.specs.Prelude.{◌≡◌, ◌↔◌, ◌⊎◌, ℕ, ◌+◌, List, [], ◌∷◌, ◌++◌, length, Some, None, Ok, Err, IsOk}
+use Rattle.std.specs.Prelude.{◌≡◌, ◌↔◌, ◌⊎◌, ℕ, List, [], Some, None, Ok, Err, IsOk}
 use Rattle.clock_gate.specs.Trace.{IsLawfulTrace}
 use Rattle.clock_gate.specs.declared.trace.Trace.{Trace}
-use Rattle.segment_layout.specs.Image.{image_of}
 use Rattle.vmclock_page.specs.Rows.{ArePageRows, IsStartPage}
+use Rattle.segment_layout.specs.Image.{image_of}
+use Rattle.csv_records.specs.Grammar.{Accepts, RefusedAt}
+use Rattle.csv_records.specs.declared.trace_error.TraceFault.{TraceFault}
 use Rattle.trace_reader.specs.Facts.{facts_of}
-use Rattle.trace_reader.specs.Grammar.{end_fault, line_after, trace_after, trace_of}
+use Rattle.trace_reader.specs.Grammar.{end_fault, grammar, trace_of, trace_said}
 use Rattle.trace_reader.specs.declared.line.Line.{Line}
-use Rattle.trace_reader.specs.declared.trace_error.TraceFault.{TraceFault}
-
--- each of these records passes after those before it, and these are their lines
-unfoldable pub Accepts : List Line → List (List (List ℕ)) → List Line → Type 0
-Accepts front [] lines = lines ≡ []
-Accepts front (fields ∷ rest) [] = ⊥
-Accepts front (fields ∷ rest) (line ∷ lines) = (line_after front fields ≡ Ok line) × Accepts (front ++ line ∷ []) rest lines
-
--- one of these records is the first that doesn't pass
-pub record RefusedAt (front : List Line) (records : List (List (List ℕ))) (fault : TraceFault) : Type 0 where
-  pub before : List (List (List ℕ))
-  pub fields : List (List ℕ)
-  pub rest : List (List (List ℕ))
-  pub lines : List Line
-  pub split : records ≡ before ++ fields ∷ rest
-  pub accepted : Accepts front before lines
-  pub why : line_after (front ++ lines) fields ≡ Err fault.reason
-  pub number : fault.line ≡ length front + length before + 1
 
 -- all of these records pass, and a trace may not end there
-pub record EndsAt (front : List Line) (records : List (List (List ℕ))) (fault : TraceFault) : Type 0 where
+pub record EndsAt (records : List (List (List ℕ))) (fault : TraceFault) : Type 0 where
   pub lines : List Line
-  pub accepted : Accepts front records lines
-  pub why : end_fault (facts_of (front ++ lines)) ≡ Some fault
+  pub accepted : Accepts grammar [] records lines
+  pub why : end_fault (facts_of lines) ≡ Some fault
 
 -- all of these records pass, and this trace is what they say
-pub record Says (front : List Line) (records : List (List (List ℕ))) (trace : Trace) : Type 0 where
+pub record Says (records : List (List (List ℕ))) (trace : Trace) : Type 0 where
   pub lines : List Line
-  pub accepted : Accepts front records lines
-  pub whole : end_fault (facts_of (front ++ lines)) ≡ None
-  pub is : trace ≡ trace_of (facts_of (front ++ lines))
+  pub accepted : Accepts grammar [] records lines
+  pub whole : end_fault (facts_of lines) ≡ None
+  pub is : trace ≡ trace_of (facts_of lines)
 
 -- what is refused is the first record that doesn't pass, by the first reason against it, or the end
 abbrev pub FaultsAreFirst : Type 0
 FaultsAreFirst =
     (records : List (List (List ℕ))) (fault : TraceFault)
-    → (trace_after [] records ≡ Err fault) ↔ (RefusedAt [] records fault ⊎ EndsAt [] records fault)
+    → (trace_said records ≡ Err fault) ↔ (RefusedAt grammar records fault ⊎ EndsAt records fault)
 
 -- a trace comes of records that all pass, and is what they say
 abbrev pub TracesSay : Type 0
-TracesSay =
-    (records : List (List (List ℕ))) (trace : Trace) → (trace_after [] records ≡ Ok trace) ↔ Says [] records trace
+TracesSay = (records : List (List (List ℕ))) (trace : Trace) → (trace_said records ≡ Ok trace) ↔ Says records trace
 
 -- a trace that may be run: it is lawful, a daemon of its layout can go on with the image, its start page is one, and each
 -- page row is one of the same clock
@@ -60,4 +43,4 @@ pub record IsRunnable (trace : Trace) : Type 0 where
 
 -- each trace of the grammar may be run
 abbrev pub TracesAreRunnable : Type 0
-TracesAreRunnable = (records : List (List (List ℕ))) (trace : Trace) → trace_after [] records ≡ Ok trace → IsRunnable trace
+TracesAreRunnable = (records : List (List (List ℕ))) (trace : Trace) → trace_said records ≡ Ok trace → IsRunnable trace

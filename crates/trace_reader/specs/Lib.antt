@@ -1,13 +1,8 @@
 pub mod Checks
-pub mod Errors
 pub mod Facts
-pub mod Fields
 pub mod Grammar
-pub mod Kinds
+pub mod Held
+pub mod Kind
 pub mod Laws
-pub mod Lines
-pub mod Names
-pub mod Parts
-pub mod Plain
-pub mod Records
-pub mod Steps
+pub mod Line
+pub mod Party

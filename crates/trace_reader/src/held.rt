@@ -1,23 +1,21 @@
 //! What the lines so far say.
 ghost use Rattle.std.specs.Prelude.{◌≡◌, ◌<◌, ◌+◌, ◌^◌, option_map};
-ghost use Rattle.clock_gate.specs.Trace.{turns_in};
 ghost use Rattle.csv.specs.Records.{fields_of};
-ghost use Rattle.trace_reader.specs.Errors.{Answers};
+ghost use Rattle.clock_gate.specs.Trace.{turns_in};
+ghost use Rattle.csv_records.specs.TraceError.{Answers, Makes, numbered};
 ghost use Rattle.trace_reader.specs.Facts.{Facts, no_facts, words_of_page};
 ghost use Rattle.trace_reader.specs.Grammar.{end_fault, ends};
-ghost use Rattle.trace_reader.specs.Steps.{Makes, numbered, step_of};
+ghost use Rattle.trace_reader.specs.Held.{step_of};
 
 mod adding;
 mod checks;
 
-use crate::line::{Line, read_line};
-use crate::reason::Reason;
-use crate::refusal::Refusal;
-use crate::trace_error::{TraceError, TraceFault};
+use crate::line::{Line, line_of};
 use clock_gate::{
     CallRow, ClockRow, HostRow, List, Party, PollRow, Trace, Turn, USUAL_DRIFT, USUAL_TRIES,
 };
 use csv::ByteRecord;
+use csv_records::{Reason, Refusal, TraceError, TraceFault};
 use generation_word::Layout;
 use std::alloc::Global;
 use std::marker::Model;
@@ -51,7 +49,7 @@ impl Model for Held {
     ghost use Rattle.clock_gate.specs.Trace.{largest_client, turns_of};
     ghost use Rattle.trace_reader.specs.Checks.{last_mono};
     ghost use Rattle.trace_reader.specs.Facts.{Facts};
-    ghost use Rattle.trace_reader.specs.Steps.{IsWithin};
+    ghost use Rattle.trace_reader.specs.Held.{IsWithin};
 
     ghost Value = { Facts };
 
@@ -115,26 +113,26 @@ impl Held {
     }
 
     /// Takes the next record.
-    #[tactic(auto, unfolding(crate::specs::Steps::step_of))]
+    #[tactic(auto, unfolding(crate::specs::Held::step_of))]
     pub fn take(&mut self, alloc: Global, row: &ByteRecord) -> Result<(), TraceError>
         ensures { Makes result self.new (numbered (Facts.count self.old + 1) (step_of self.old (fields_of row.now))) }
     {
         let line = self.next_number();
-        let read = match read_line(alloc, row) {
+        let read = match line_of(alloc, row) {
             Ok(read) => read,
             Err(Refusal::Memory) => return Err(TraceError::Memory),
             Err(Refusal::By(reason)) => {
                 return Err(TraceError::Refused(TraceFault { line, reason }));
             }
         };
-        if let Some(reason) = self.fault(&read) {
+        if let Some(reason) = self.fault_of(&read) {
             return Err(TraceError::Refused(TraceFault { line, reason }));
         }
         self.add(read)?;
         Ok(())
     }
 
-    fn last_fault(&self) -> Option<TraceFault>
+    fn end_fault(&self) -> Option<TraceFault>
         ensures { result ≡ end_fault self.now }
     {
         if self.count == 0 {
@@ -156,7 +154,7 @@ impl Held {
     pub fn finish(self) -> Result<Trace, TraceError>
         ensures { Answers result (ends (end_fault self) self) }
     {
-        if let Some(fault) = self.last_fault() {
+        if let Some(fault) = self.end_fault() {
             return Err(TraceError::Refused(fault));
         }
         let page = words_of(self.start);

@@ -1,18 +1,17 @@
 //! A record of a trace by itself: what it says, or the first reason against it that needs no other record.
 ghost use Rattle.std.specs.Prelude.{◌≡◌, ◌≤◌, IfOk, length};
 ghost use Rattle.csv.specs.Records.{fields_of};
-ghost use Rattle.trace_reader.specs.Lines.{allows, call_line_in, clock_row_in, drift_line_in, header_in, image_by, image_line_in, jobs_in, layout_line_in, layout_named, line_by, line_of, mark_line_in, page_found, page_line_in, poll_row_in, run_in, tries_line_in};
-ghost use Rattle.trace_reader.specs.Parts.{Reads};
+ghost use Rattle.csv_records.specs.Refusal.{Reads};
+ghost use Rattle.trace_reader.specs.Line.{call_line_in, clock_row_in, drift_line_in, header_in, image_by, image_line_in, jobs_in, layout_line_in, layout_named, line_by, line_of, mark_line_in, page_found, page_line_in, poll_row_in, run_in, tries_line_in};
 
-use crate::kinds::{Kind, kind_of};
-use crate::parts::{read_bytes, read_number, read_optional, read_party};
-use crate::reason::Reason;
-use crate::refusal::Refusal;
+use crate::kind::{Kind, allows, kind_in};
+use crate::party::read_party;
 use clock_gate::{
     ClockRow, LAST_MOMENT, MOST_CLIENTS, MOST_DRIFT, MOST_OF_A_LINE, MOST_PAGE_BYTES,
     MOST_REPLY_BYTES, MOST_STORES, MOST_TRIES, PollRow, Turn,
 };
 use csv::ByteRecord;
+use csv_records::{Reason, Refusal, read_bytes, read_number, read_optional};
 use generation_word::Layout;
 use segment_layout::image_words;
 use std::alloc::Global;
@@ -41,48 +40,28 @@ pub enum Line {
     Turns(Turn),
 }
 
-fn is_allowed(kind: Kind, count: usize) -> bool
-    ensures { result ≡ allows kind count }
-{
-    match kind {
-        Kind::Header => count == 2,
-        Kind::Drift => count == 3,
-        Kind::Tries => count == 3,
-        Kind::Layout => count == 3,
-        Kind::Image => count == 2,
-        Kind::Page => count == 2,
-        Kind::Clock => count == 3 || count == 4,
-        Kind::Mark => count == 2,
-        Kind::Disrupt => count == 1,
-        Kind::Poll => count == 2 || count == 3,
-        Kind::Call => count == 2 || count == 3,
-        Kind::Run => count == 3,
-        Kind::Jobs => count == 3,
-    }
-}
-
-fn header_line(row: &ByteRecord) -> Result<Line, Reason>
+fn header_in(row: &ByteRecord) -> Result<Line, Reason>
     ensures { result ≡ header_in (fields_of row.now) }
 {
     read_number(row, 1, 1, 1)?;
     Ok(Line::Header)
 }
 
-fn drift_line(row: &ByteRecord) -> Result<Line, Reason>
+fn drift_line_in(row: &ByteRecord) -> Result<Line, Reason>
     ensures { result ≡ drift_line_in (fields_of row.now) }
 {
     let drift = read_number(row, 2, 0, MOST_DRIFT as u64)?;
     Ok(Line::Drift(drift as u32))
 }
 
-fn tries_line(row: &ByteRecord) -> Result<Line, Reason>
+fn tries_line_in(row: &ByteRecord) -> Result<Line, Reason>
     ensures { result ≡ tries_line_in (fields_of row.now) }
 {
     let tries = read_number(row, 2, 1, MOST_TRIES as u64)?;
     Ok(Line::Tries(tries as u16))
 }
 
-fn layout_of(version: u64) -> Layout
+fn layout_named(version: u64) -> Layout
     ensures { result ≡ layout_named version }
 {
     if version == 2 {
@@ -91,15 +70,15 @@ fn layout_of(version: u64) -> Layout
     Layout::Three
 }
 
-fn layout_line(row: &ByteRecord) -> Result<Line, Reason>
+fn layout_line_in(row: &ByteRecord) -> Result<Line, Reason>
     ensures { result ≡ layout_line_in (fields_of row.now) }
 {
     let version = read_number(row, 2, 2, 3)?;
-    Ok(Line::Layout(layout_of(version)))
+    Ok(Line::Layout(layout_named(version)))
 }
 
-#[tactic(auto, unfolding(crate::specs::Lines::image_by))]
-fn image_of(bytes: &[u8]) -> Result<Line, Reason>
+#[tactic(auto, unfolding(crate::specs::Line::image_by))]
+fn image_by(bytes: &[u8]) -> Result<Line, Reason>
     ensures { result ≡ image_by bytes.now }
 {
     if bytes.len() != 80 {
@@ -110,28 +89,28 @@ fn image_of(bytes: &[u8]) -> Result<Line, Reason>
     Ok(Line::Image(image_words(&image)))
 }
 
-fn image_line(alloc: Global, row: &ByteRecord) -> Result<Line, Refusal>
+fn image_line_in(alloc: Global, row: &ByteRecord) -> Result<Line, Refusal>
     ensures { Reads result (image_line_in (fields_of row.now)) }
 {
     let bytes = read_bytes(alloc, row, 1, 160)?;
-    Ok(image_of(bytes.as_slice())?)
+    Ok(image_by(bytes.as_slice())?)
 }
 
-#[tactic(auto, unfolding(crate::specs::Lines::page_found))]
-fn page_of(bytes: &[u8]) -> Option<Page>
+#[tactic(auto, unfolding(crate::specs::Line::page_found))]
+fn page_found(bytes: &[u8]) -> Option<Page>
     ensures { result ≡ page_found bytes.now }
 {
     read_page(bytes).ok()
 }
 
-fn page_line(alloc: Global, row: &ByteRecord) -> Result<Line, Refusal>
+fn page_line_in(alloc: Global, row: &ByteRecord) -> Result<Line, Refusal>
     ensures { Reads result (page_line_in (fields_of row.now)) }
 {
     let bytes = read_bytes(alloc, row, 1, 2 * MOST_PAGE_BYTES)?;
-    Ok(Line::Page(page_of(bytes.as_slice())))
+    Ok(Line::Page(page_found(bytes.as_slice())))
 }
 
-fn clock_row(row: &ByteRecord) -> Result<ClockRow, Reason>
+fn clock_row_in(row: &ByteRecord) -> Result<ClockRow, Reason>
     ensures { result ≡ clock_row_in (fields_of row.now) }
 {
     let mono = read_number(row, 1, 0, LAST_MOMENT)?;
@@ -140,14 +119,14 @@ fn clock_row(row: &ByteRecord) -> Result<ClockRow, Reason>
     Ok(ClockRow { mono, real, truth })
 }
 
-fn mark_line(row: &ByteRecord) -> Result<Line, Reason>
+fn mark_line_in(row: &ByteRecord) -> Result<Line, Reason>
     ensures { result ≡ mark_line_in (fields_of row.now) }
 {
     let marker = read_number(row, 1, 0, u64::MAX)?;
     Ok(Line::Mark(marker))
 }
 
-fn poll_row(alloc: Global, row: &ByteRecord) -> Result<PollRow, Refusal>
+fn poll_row_in(alloc: Global, row: &ByteRecord) -> Result<PollRow, Refusal>
     ensures { Reads result (poll_row_in (fields_of row.now)) }
 {
     let reply = read_bytes(alloc, row, 1, 2 * MOST_REPLY_BYTES)?;
@@ -160,7 +139,7 @@ fn poll_row(alloc: Global, row: &ByteRecord) -> Result<PollRow, Refusal>
     }
 }
 
-fn call_line(row: &ByteRecord) -> Result<Line, Reason>
+fn call_line_in(row: &ByteRecord) -> Result<Line, Reason>
     ensures { result ≡ call_line_in (fields_of row.now) }
 {
     let client = read_number(row, 1, 1, MOST_CLIENTS as u64)?;
@@ -170,7 +149,7 @@ fn call_line(row: &ByteRecord) -> Result<Line, Reason>
     }
 }
 
-fn run(row: &ByteRecord) -> Result<Turn, Reason>
+fn run_in(row: &ByteRecord) -> Result<Turn, Reason>
     ensures { result ≡ run_in (fields_of row.now) }
 {
     let party = read_party(row, 1)?;
@@ -178,7 +157,7 @@ fn run(row: &ByteRecord) -> Result<Turn, Reason>
     Ok(Turn::Run(party, count as u32))
 }
 
-fn jobs(row: &ByteRecord) -> Result<Turn, Reason>
+fn jobs_in(row: &ByteRecord) -> Result<Turn, Reason>
     ensures { result ≡ jobs_in (fields_of row.now) }
 {
     let party = read_party(row, 1)?;
@@ -186,34 +165,34 @@ fn jobs(row: &ByteRecord) -> Result<Turn, Reason>
     Ok(Turn::Jobs(party, count as u32))
 }
 
-fn line_of_kind(alloc: Global, kind: Kind, row: &ByteRecord) -> Result<Line, Refusal>
+fn line_by(alloc: Global, kind: Kind, row: &ByteRecord) -> Result<Line, Refusal>
     ensures { Reads result (line_by kind (fields_of row.now)) }
 {
     match kind {
-        Kind::Header => Ok(header_line(row)?),
-        Kind::Drift => Ok(drift_line(row)?),
-        Kind::Tries => Ok(tries_line(row)?),
-        Kind::Layout => Ok(layout_line(row)?),
-        Kind::Image => image_line(alloc, row),
-        Kind::Page => page_line(alloc, row),
-        Kind::Clock => Ok(Line::Clock(clock_row(row)?)),
-        Kind::Mark => Ok(mark_line(row)?),
+        Kind::Header => Ok(header_in(row)?),
+        Kind::Drift => Ok(drift_line_in(row)?),
+        Kind::Tries => Ok(tries_line_in(row)?),
+        Kind::Layout => Ok(layout_line_in(row)?),
+        Kind::Image => image_line_in(alloc, row),
+        Kind::Page => page_line_in(alloc, row),
+        Kind::Clock => Ok(Line::Clock(clock_row_in(row)?)),
+        Kind::Mark => Ok(mark_line_in(row)?),
         Kind::Disrupt => Ok(Line::Disrupt),
-        Kind::Poll => Ok(Line::Poll(poll_row(alloc, row)?)),
-        Kind::Call => Ok(call_line(row)?),
-        Kind::Run => Ok(Line::Turns(run(row)?)),
-        Kind::Jobs => Ok(Line::Turns(jobs(row)?)),
+        Kind::Poll => Ok(Line::Poll(poll_row_in(alloc, row)?)),
+        Kind::Call => Ok(call_line_in(row)?),
+        Kind::Run => Ok(Line::Turns(run_in(row)?)),
+        Kind::Jobs => Ok(Line::Turns(jobs_in(row)?)),
     }
 }
 
 /// The line that a record is.
-#[tactic(auto, unfolding(crate::specs::Lines::line_of))]
-pub fn read_line(alloc: Global, row: &ByteRecord) -> Result<Line, Refusal>
+#[tactic(auto, unfolding(crate::specs::Line::line_of))]
+pub fn line_of(alloc: Global, row: &ByteRecord) -> Result<Line, Refusal>
     ensures { Reads result (line_of (fields_of row.now)) }
 {
-    let kind = kind_of(row)?;
-    if !is_allowed(kind, row.len()) {
+    let kind = kind_in(row)?;
+    if !allows(kind, row.len()) {
         return Err(Refusal::By(Reason::Fields));
     }
-    line_of_kind(alloc, kind, row)
+    line_by(alloc, kind, row)
 }

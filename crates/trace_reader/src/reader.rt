@@ -1,16 +1,15 @@
 //! The trace of a text.
 ghost use Rattle.std.specs.Prelude.{IfOk, IsOk};
 ghost use Rattle.clock_gate.specs.Trace.{IsLawfulTrace};
-ghost use Rattle.segment_layout.specs.Image.{image_of};
-ghost use Rattle.trace_reader.specs.Errors.{Answers};
-ghost use Rattle.trace_reader.specs.Grammar.{trace_in};
 ghost use Rattle.vmclock_page.specs.Rows.{ArePageRows, IsStartPage};
+ghost use Rattle.segment_layout.specs.Image.{image_of};
+ghost use Rattle.csv_records.specs.TraceError.{Answers};
+ghost use Rattle.trace_reader.specs.Grammar.{trace_in};
 
 use crate::held::Held;
-use crate::records::Records;
-use crate::trace_error::TraceError;
 use clock_gate::Trace;
 use csv::ByteRecord;
+use csv_records::{Records, TraceError};
 use std::alloc::Global;
 
 fn read_records(alloc: Global, bytes: &[u8]) -> Result<Trace, TraceError>

@@ -3,9 +3,10 @@ ghost use Rattle.std.specs.Prelude.{◌≡◌, None, Some, if◌then◌else◌, 
 ghost use Rattle.clock_gate.specs.Trace.{larger};
 ghost use Rattle.clock_gate.specs.declared.limits.TheConstants.{USUAL_TRIES};
 ghost use Rattle.clock_gate.specs.declared.trace.Party.TheVariants as parties;
+ghost use Rattle.csv_records.specs.Step.{joined};
 ghost use Rattle.trace_reader.specs.Checks.{fault_of};
 ghost use Rattle.trace_reader.specs.Facts.{Facts, given, marked, page_row};
-ghost use Rattle.trace_reader.specs.Steps.{joined, taken};
+ghost use Rattle.trace_reader.specs.Held.{taken};
 ghost use Rattle.trace_reader.specs.declared.line.Line.TheVariants as lines;
 
 use super::{Held, turns_in};

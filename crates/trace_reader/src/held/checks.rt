@@ -5,8 +5,8 @@ ghost use Rattle.trace_reader.specs.Checks.{breaks_image, breaks_order, breaks_p
 
 use super::{Held, turns_in};
 use crate::line::Line;
-use crate::reason::Reason;
 use clock_gate::{MOST_CALLS, MOST_HOST_ROWS, MOST_POLLS, MOST_SCHEDULE_LINES, MOST_TURNS, Turn};
+use csv_records::Reason;
 use generation_word::Layout;
 use segment_layout::admit;
 use vmclock_page::{Page, has_constants_of};
@@ -27,24 +27,24 @@ fn is_admitted(words: &[u64; 10], layout: Layout) -> bool
 }
 
 impl Held {
-    fn has_row(&self) -> bool
+    fn has_clock(&self) -> bool
         ensures { result ≡ has_clock self.now }
     {
         !self.clocks.is_empty()
     }
 
-    fn is_misplaced(&self, line: &Line) -> bool
+    fn breaks_order(&self, line: &Line) -> bool
         ensures { result ≡ breaks_order self.now line.now }
     {
         match line {
             Line::Header => self.count != 0,
-            Line::Drift(_) => self.count == 0 || self.has_row() || self.drift.is_some(),
-            Line::Tries(_) => self.count == 0 || self.has_row() || self.tries.is_some(),
+            Line::Drift(_) => self.count == 0 || self.has_clock() || self.drift.is_some(),
+            Line::Tries(_) => self.count == 0 || self.has_clock() || self.tries.is_some(),
             Line::Layout(_) => {
-                self.count == 0 || self.has_row() || self.image.is_some() || self.layout.is_some()
+                self.count == 0 || self.has_clock() || self.image.is_some() || self.layout.is_some()
             }
-            Line::Image(_) => self.count == 0 || self.has_row() || self.image.is_some(),
-            Line::Turns(_) => self.count == 0 || !self.has_row(),
+            Line::Image(_) => self.count == 0 || self.has_clock() || self.image.is_some(),
+            Line::Turns(_) => self.count == 0 || !self.has_clock(),
             Line::Page(_) => self.count == 0,
             Line::Clock(_) => self.count == 0,
             Line::Mark(_) => self.count == 0,
@@ -54,15 +54,15 @@ impl Held {
         }
     }
 
-    fn wants_clock(&self, line: &Line) -> bool
+    fn lacks_clock(&self, line: &Line) -> bool
         ensures { result ≡ lacks_clock self.now line.now }
     {
         match line {
-            Line::Mark(_) => !self.has_row(),
-            Line::Disrupt => !self.has_row(),
-            Line::Poll(_) => !self.has_row(),
-            Line::Call(_, _) => !self.has_row(),
-            Line::Page(_) => !self.has_row() && self.start.is_some(),
+            Line::Mark(_) => !self.has_clock(),
+            Line::Disrupt => !self.has_clock(),
+            Line::Poll(_) => !self.has_clock(),
+            Line::Call(_, _) => !self.has_clock(),
+            Line::Page(_) => !self.has_clock() && self.start.is_some(),
             Line::Header => false,
             Line::Drift(_) => false,
             Line::Tries(_) => false,
@@ -73,7 +73,7 @@ impl Held {
         }
     }
 
-    fn is_back(&self, line: &Line) -> bool
+    fn goes_back(&self, line: &Line) -> bool
         ensures { result ≡ goes_back self.now line.now }
     {
         match line {
@@ -92,20 +92,20 @@ impl Held {
         }
     }
 
-    fn fits(&self, page: Option<Page>) -> bool
+    fn is_fit(&self, page: Option<Page>) -> bool
         ensures { result ≡ is_fit self.now page }
     {
         match page {
             None => false,
-            Some(page) => !self.has_row() || is_of_start(self.start, page),
+            Some(page) => !self.has_clock() || is_of_start(self.start, page),
         }
     }
 
-    fn is_unlike(&self, line: &Line) -> bool
+    fn breaks_page(&self, line: &Line) -> bool
         ensures { result ≡ breaks_page self.now line.now }
     {
         match line {
-            Line::Page(page) => !self.fits(*page),
+            Line::Page(page) => !self.is_fit(*page),
             Line::Mark(_) => !self.start.is_some(),
             Line::Header => false,
             Line::Drift(_) => false,
@@ -126,7 +126,7 @@ impl Held {
         self.layout.unwrap_or(Layout::Two)
     }
 
-    fn is_no_image(&self, line: &Line) -> bool
+    fn breaks_image(&self, line: &Line) -> bool
         ensures { result ≡ breaks_image self.now line.now }
     {
         match line {
@@ -146,24 +146,24 @@ impl Held {
     }
 
     // Whether the schedule is full, or would give too many turns with this line.
-    fn is_overrun(&self, turn: &Turn) -> bool
+    fn overruns(&self, turn: &Turn) -> bool
         ensures { result ≡ overruns self.now turn.now }
     {
         let turns = turns_in(turn);
         self.turns.len() >= MOST_SCHEDULE_LINES || self.ran + turns > MOST_TURNS
     }
 
-    fn is_over(&self, line: &Line) -> bool
+    fn passes_limit(&self, line: &Line) -> bool
         ensures { result ≡ passes_limit self.now line.now }
     {
         match line {
             Line::Clock(_) => self.host.len() >= MOST_HOST_ROWS,
             Line::Mark(_) => self.host.len() >= MOST_HOST_ROWS,
             Line::Disrupt => self.host.len() >= MOST_HOST_ROWS,
-            Line::Page(_) => self.has_row() && self.host.len() >= MOST_HOST_ROWS,
+            Line::Page(_) => self.has_clock() && self.host.len() >= MOST_HOST_ROWS,
             Line::Poll(_) => self.polls.len() >= MOST_POLLS,
             Line::Call(_, _) => self.calls.len() >= MOST_CALLS,
-            Line::Turns(turn) => self.is_overrun(turn),
+            Line::Turns(turn) => self.overruns(turn),
             Line::Header => false,
             Line::Drift(_) => false,
             Line::Tries(_) => false,
@@ -173,25 +173,25 @@ impl Held {
     }
 
     /// The first reason against a line by the lines before it.
-    pub fn fault(&self, line: &Line) -> Option<Reason>
+    pub fn fault_of(&self, line: &Line) -> Option<Reason>
         ensures { result ≡ fault_of self.now line.now }
     {
-        if self.is_misplaced(line) {
+        if self.breaks_order(line) {
             return Some(Reason::Order);
         }
-        if self.wants_clock(line) {
+        if self.lacks_clock(line) {
             return Some(Reason::NoClock);
         }
-        if self.is_back(line) {
+        if self.goes_back(line) {
             return Some(Reason::ClockBack);
         }
-        if self.is_unlike(line) {
+        if self.breaks_page(line) {
             return Some(Reason::Page);
         }
-        if self.is_no_image(line) {
+        if self.breaks_image(line) {
             return Some(Reason::Image);
         }
-        if self.is_over(line) {
+        if self.passes_limit(line) {
             return Some(Reason::Limit);
         }
         None

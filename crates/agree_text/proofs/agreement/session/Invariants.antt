@@ -1,9 +1,11 @@
 use Rattle.std.proofs.Common.{length}
-use Rattle.agree_text.proofs.Reading.{Stands}
+use Rattle.csv_records.specs.Records.{records_of}
+use Rattle.csv_records.proofs.Reading.{Stands}
+use Rattle.agree_text.specs.Agreement.{grammar}
 use Rattle.agree_text.proofs.agreement.session.Given as goal
 
 abbrev pub invariant-reading : goal.invariant-reading
-invariant-reading l = Stands l.fn.bytes l.session l.ahead
+invariant-reading l = Stands grammar (records_of l.fn.bytes) l.session l.ahead
 
 abbrev pub decreases-reading : goal.decreases-reading
 decreases-reading l = length l.ahead

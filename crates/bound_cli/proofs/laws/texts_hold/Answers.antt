@@ -1,8 +1,7 @@
-use Rattle.std.proofs.Common.{refl, subst, sym}
+use Rattle.std.proofs.Common.{refl, subst}
 use Rattle.abstract_run.specs.Run.{Run}
 use Rattle.abstract_run.specs.RunWhole.{run_of}
 use Rattle.promised_truth.specs.Laws.{TellsPremises}
-use Rattle.bound_cli.specs.Headline.{IsFinished}
 use Rattle.bound_cli.proofs.Dated.{run_dated}
 use Rattle.bound_cli.proofs.laws.texts_hold.Goals as goal
 
@@ -23,13 +22,12 @@ returns-clause-replayed c bytes trace read =
 pub returns-clause-texts : goal.returns-clause-texts
 returns-clause-texts c bytes trace read =
     let given = c.read_runs_laws.ensures.traces bytes trace read in
-    let replayed = returns-clause-replayed c bytes trace read in
     record {
       sound = λ turns. c.sound_runs.ensures.sound trace turns given;
       truth = λ turns. c.runs_keep_truth.ensures.truth trace turns given.can given.fits;
       progress = λ turns. c.progress_laws.ensures.turns trace turns;
       openings = λ turns. c.progress_laws.ensures.openings trace turns;
-      finished = (replayed.turns, subst (IsFinished trace) (sym replayed.whole) replayed.finished);
+      jobs = λ turns. c.progress_laws.ensures.jobs trace turns given.can.lawful;
     }
 
 pub returns-clause-judged : goal.returns-clause-judged

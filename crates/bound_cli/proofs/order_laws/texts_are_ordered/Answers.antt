@@ -8,8 +8,8 @@ use Rattle.abstract_run.specs.Run.{Run}
 use Rattle.abstract_run.specs.RunWhole.{run_of}
 use Rattle.order_text.specs.Told.{answers_told}
 use Rattle.ordered_runs.specs.OrderedRuns.{IsOrdered}
-use Rattle.trace_reader.specs.declared.trace_error.TraceFault.{TraceFault}
-use Rattle.bound_cli.specs.Replay.{◌>>=◌}
+use Rattle.csv_records.specs.Reason.{◌>>=◌}
+use Rattle.csv_records.specs.declared.trace_error.TraceFault.{TraceFault}
 use Rattle.bound_cli.specs.Order.{told_text, ordering_text, order_report}
 use Rattle.bound_cli.specs.Premises.{premises_line}
 use Rattle.bound_cli.proofs.HeldEnds.{held_by_end}

@@ -1,0 +1,10 @@
+pub mod Fields
+pub mod Grammar
+pub mod Kind
+pub mod Parts
+pub mod Plain
+pub mod Reason
+pub mod Records
+pub mod Refusal
+pub mod Step
+pub mod TraceError

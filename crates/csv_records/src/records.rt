@@ -1,0 +1,91 @@
+//! The records of a text, read one by one.
+ghost use Rattle.std.specs.Prelude.{◌≡◌, ◌≤◌, ◌∷◌, [], true, false, length, OnErr, IfOk};
+ghost use Rattle.csv.specs.Reading.{error_kind, strip_bom};
+ghost use Rattle.csv.specs.Records.{fields_of};
+ghost use Rattle.csv_records.specs.Plain.{IsPlain, rows_of};
+ghost use Rattle.csv_records.specs.Records.{IsOutside, records_of};
+
+use csv::{ByteRecord, Error, ErrorKind, Reader, ReaderBuilder};
+use std::alloc::{AllocError, Global};
+use std::marker::Model;
+
+/// The records of a text that are still ahead, each of them the list of its fields.
+///
+/// Fields are parted by commas, and a field may be quoted. A record ends with a line feed, with a carriage return, or
+/// with a carriage return and a line feed, and the last one may lack its end. Empty lines are skipped, and so is one
+/// byte order mark at the very start. Records may differ in their number of fields, none of them is a header, and
+/// nothing is trimmed.
+#[derive(Drop)]
+pub struct Records<'a> {
+    reader: Reader<&'a [u8]>,
+    is_over: bool,
+}
+
+impl<'a> Model for Records<'a> {
+    ghost use Rattle.std.specs.Prelude.{◌≡◌, ℕ, List, [], false, if◌then◌else◌};
+
+    ghost Value = { List (List (List ℕ)) };
+
+    ghost use Rattle.csv_records.specs.Records.{GoesOn, records_ahead};
+
+    ghost view = { λ r. if r.is_over then [] else records_ahead r.reader };
+
+    ghost invariant = { λ r. r.is_over ≡ false → GoesOn r.reader };
+}
+
+impl<'a> Records<'a> {
+    /// All records of a text, no more than it has bytes.
+    pub fn new(alloc: Global, bytes: &'a [u8]) -> Records<'a>
+        ensures all { result ≡ records_of bytes.now }
+        ensures most { length result ≤ length bytes.now }
+
+        // Where nothing is quoted these are the lines that aren't empty, each parted at its commas.
+        ensures plain { IsPlain (strip_bom bytes.now) → result ≡ rows_of (strip_bom bytes.now) }
+    {
+        let reader = ReaderBuilder::new()
+            .has_headers(false)
+            .flexible(true)
+            .from_reader(alloc, bytes);
+        Records {
+            reader,
+            is_over: false,
+        }
+    }
+
+    /// Takes the next record into `row`, and says whether there was one. Without one `row` is of no meaning.
+    /// The only error is want of memory, after which no record is left.
+    pub fn read(&mut self, row: &mut ByteRecord) -> Result<bool, AllocError>
+        ensures next { IfOk result (λ found. found ≡ true → self.old ≡ fields_of row.new ∷ self.new) }
+        ensures end { IfOk result (λ found. found ≡ false → (self.old ≡ []) × (self.new ≡ [])) }
+        ensures err { OnErr result (self.new ≡ []) }
+    {
+        if self.is_over {
+            return Ok(false);
+        }
+        match self.reader.read_byte_record(row) {
+            Ok(true) => Ok(true),
+            Ok(false) => {
+                self.is_over = true;
+                Ok(false)
+            }
+            Err(e) => {
+                self.is_over = true;
+                Err(memory_error(e))
+            }
+        }
+    }
+}
+
+// A slice is read without failing, and records may have any number of fields, so that memory is left.
+fn memory_error(e: Error) -> AllocError
+    requires { IsOutside (error_kind e) }
+{
+    match e.into_kind() {
+        ErrorKind::OutOfMemory => AllocError,
+        ErrorKind::Io(_) => AllocError,
+        ErrorKind::Utf8 { .. } => unreachable!(),
+        ErrorKind::UnequalLengths { .. } => unreachable!(),
+        ErrorKind::Serialize(_) => unreachable!(),
+        ErrorKind::Deserialize { .. } => unreachable!(),
+    }
+}

@@ -1,3 +1,0 @@
-mod Clocks
-mod Hosts
-pub mod Kept

@@ -1,5 +1,0 @@
-use Rattle.day_promises.proofs.Kept.{day_keeps}
-use Rattle.day_promises.proofs.laws.day_keeps_its_promises.Goals as goal
-
-pub returns : goal.returns
-returns c = record { kept = day_keeps }
