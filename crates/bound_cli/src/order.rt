@@ -10,13 +10,13 @@ ghost use Rattle.bound_cli.specs.Order.{order_report, ordering_text};
 
 use crate::premises_line::put_premises;
 use crate::report::premises_of;
-use crate::whole_run::ran;
 use abstract_run::{Event, given};
 use clock_gate::{Memory, Trace};
 use csv_records::TraceError;
 use order_text::{answers_told, put_order};
 use ordered_runs::ordered_laws;
 use std::alloc::{AllocError, Global};
+use step_core::{World, words_show};
 use trace_reader::read_trace;
 
 // Room for the two lines of an answer: most are shorter, and a text grows where they aren't.
@@ -52,10 +52,13 @@ fn ordering_of_run(alloc: Global, length: u64, trace: &Trace) -> Result<String, 
     requires can { CanRun trace.now }
     ensures report { IfOk result (λ text. string_bytes text ≡ ordering_text length trace.now (run_of trace.now).events) }
 {
-    let world = match ran(alloc, trace) {
+    given(trace);
+    words_show();
+    let mut world = match World::new(alloc, trace) {
         Ok(world) => world,
         Err(Memory) => return Err(AllocError),
     };
+    world.run();
     ordering(alloc, length, trace, world.events())
 }
 
