@@ -1,0 +1,103 @@
+-- What an auditor finds at the head of a text: a line of one kind that may stand there, with what follows it, or that no such
+-- line begins the text.
+use Rattle.std.specs.Prelude.{◌≡◌, ◌≢◌, ℕ, ◌+◌, List, ◌∷◌, ◌++◌, Option, Some, None}
+use Rattle.std.specs.Borrow.{Bor}
+use Rattle.clock_gate.specs.declared.trace.Trace.{Trace}
+use Rattle.interval_now.specs.declared.answers.Answer.TheVariants.{Time, Busy}
+use Rattle.interval_now.specs.declared.answers.Answer.{Answer}
+use Rattle.interval_now.specs.declared.answers.Interval.{Interval}
+use Rattle.clock_gate.specs.ClockRow.{row_at}
+use Rattle.clock_gate.specs.declared.clock_row.ClockRow.{ClockRow}
+use Rattle.clock_gate.specs.declared.trace.PollRow.{PollRow}
+use Rattle.segment_layout.specs.Record.{RecordFields}
+use Rattle.status_machine.specs.declared.daemon.Daemon.{Daemon}
+use Rattle.status_machine.specs.declared.heard.Heard.{Heard}
+use Rattle.status_machine.specs.Poll.{heard_of}
+use Rattle.status_machine.specs.Incarnation.{record_at, base_at}
+use Rattle.status_machine.specs.Step.{ShowsPast}
+use Rattle.generation_word.specs.Layout.{period_of}
+use Rattle.lawful_report.specs.Points.{IsLeast}
+use Rattle.report_audit.specs.Leasts.{NoneHas}
+use Rattle.lawful_report.specs.Lines.{skipped_line, answered_line}
+use Rattle.lawful_report.specs.Pages.{PageTriesFail, page_seen, marker_at}
+use Rattle.lawful_report.specs.Course.{Course, Life, poll_at, base_number}
+use Rattle.lawful_report.specs.declared.entry.Entry.{Entry}
+use Rattle.lawful_report.specs.Calls.{FailsAt, GivesInterval}
+
+-- a skipped poll
+pub record SkipsTo (trace : Trace) (poll page : ℕ) (text : List ℕ) (seen : ℕ) (later : List ℕ) : Type 0 where
+  pub first : ℕ
+  pub last : ℕ
+  pub fails : PageTriesFail trace page first last
+  pub seen_is : seen ≡ page_seen trace last
+  pub begins : text ≡ skipped_line poll first last ++ later
+
+abbrev pub SkipFound : Trace → (poll page : ℕ) → List ℕ → Option (ℕ × Bor (List ℕ)) → Type 0
+SkipFound trace poll page text None = (first last : ℕ) (later : List ℕ) → PageTriesFail trace page first last → text ≢ skipped_line poll first last ++ later
+SkipFound trace poll page text (Some found) = SkipsTo trace poll page text found.0 found.1.now
+
+-- a client's tries that all failed
+pub record FailsTo (period client call tries from until : ℕ) (text : List ℕ) (point : ℕ) (later : List ℕ) : Type 0 where
+  pub first : ℕ
+  pub last : ℕ
+  pub fails : FailsAt period from until first last point
+  pub begins : text ≡ answered_line client call 0 (Busy tries first last) ++ later
+
+abbrev pub BusyFound : (period client call tries from until : ℕ) → List ℕ → Option (ℕ × Bor (List ℕ)) → Type 0
+BusyFound period client call tries from until text None = (first last point : ℕ) (later : List ℕ) → FailsAt period from until first last point → text ≢ answered_line client call 0 (Busy tries first last) ++ later
+BusyFound period client call tries from until text (Some found) = FailsTo period client call tries from until text found.0 found.1.now
+
+-- ---- an answer Time
+
+-- what of a trace and of the daemon's lines is needed to judge an answer Time at this row and page
+pub record KnowsTime (trace : Trace) (course : Course) (entries : List Entry) (before row page mono real : ℕ) (marker : Option ℕ) : Type 0 where
+  pub entries_are : course.entries ≡ entries
+  pub before_is : course.before ≡ before
+  pub mono_is : (row_at trace.clock row).mono ≡ mono
+  pub real_is : (row_at trace.clock row).real ≡ real
+  pub marker_is : marker_at trace page ≡ marker
+
+-- the answer Time with this interval
+abbrev pub time_said : (generation row : ℕ) → Interval → Answer
+time_said generation row interval = Time (record { generation = generation; row = row; sequence = 0; interval = interval })
+
+-- at this point stands a record that gives the interval with which the line begins the text
+pub record TimeFits (trace : Trace) (course : Course) (client call generation row page : ℕ) (text : List ℕ) (point : ℕ) : Type 0 where
+  pub interval : Interval
+  pub gives : GivesInterval trace course generation row page interval point
+  pub later : List ℕ
+  pub begins : text ≡ answered_line client call page (time_said generation row interval) ++ later
+
+-- the same with what follows, or that it is not so
+abbrev pub TimeFitsOrNot : Trace → Course → (client call generation row page : ℕ) → List ℕ → (point : ℕ) → Option (Interval × Bor (List ℕ)) → Type 0
+TimeFitsOrNot trace course client call generation row page text point None = TimeFits trace course client call generation row page text point → ⊥
+TimeFitsOrNot trace course client call generation row page text point (Some found) =
+    GivesInterval trace course generation row page found.0 point × (text ≡ answered_line client call page (time_said generation row found.0) ++ found.1.now)
+
+-- what a search from one point to another knows of a trace: its period too
+pub record KnowsRun (trace : Trace) (course : Course) (entries : List Entry) (before row page mono real : ℕ) (marker : Option ℕ) (period : ℕ) : Type 0 where
+  pub time : KnowsTime trace course entries before row page mono real marker
+  pub period_is : period_of trace.layout ≡ period
+
+-- the least point that fits, its interval and what follows the line, or that no point fits
+abbrev pub LeastTime : Trace → Course → (client call generation row page from until : ℕ) → List ℕ → Option (ℕ × (Interval × Bor (List ℕ))) → Type 0
+LeastTime trace course client call generation row page from until text None = NoneHas from until (TimeFits trace course client call generation row page text)
+LeastTime trace course client call generation row page from until text (Some found) =
+    IsLeast from until (TimeFits trace course client call generation row page text) found.0
+    × (GivesInterval trace course generation row page found.1.0 found.0 × (text ≡ answered_line client call page (time_said generation row found.1.0) ++ found.1.1.now))
+
+-- ---- a publication
+
+-- what of a trace and of the daemon's lines is needed to make the publication of a poll with this page
+pub record KnowsPoll (trace : Trace) (course : Course) (life : Life) (row : PollRow) (page : ℕ) (clock : List ClockRow) (number : ℕ) (heard : Heard) (marker : Option ℕ) (daemon : Daemon) : Type 0 where
+  pub clock_is : trace.clock ≡ clock
+  pub number_is : course.polled + 1 ≡ number
+  pub heard_is : heard_of row.reply ≡ heard
+  pub marker_is : marker_at trace page ≡ marker
+  pub shows : ShowsPast life.from life.past daemon
+
+-- the record and the base of a poll are those of looking back, and the daemon shows one poll more
+pub record Polled (trace : Trace) (course : Course) (life : Life) (row : PollRow) (asked page : ℕ) (rec : RecordFields) (base : ℕ) (daemon : Daemon) : Type 0 where
+  pub rec_is : rec ≡ record_at life.from (poll_at trace course asked page row) life.past
+  pub base_is : base ≡ base_number (base_at life.from (poll_at trace course asked page row ∷ life.past))
+  pub shows : ShowsPast life.from (poll_at trace course asked page row ∷ life.past) daemon

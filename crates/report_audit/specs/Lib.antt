@@ -1,0 +1,4 @@
+pub mod Leasts
+pub mod KnownPages
+pub mod Numbers
+pub mod FoundLines
