@@ -5,3 +5,6 @@ pub mod TimeSearch
 pub mod OneText
 pub mod OneNext
 pub mod OneVerdict
+pub mod PageFree
+pub mod AnswerKinds
+pub mod SmallNumbers

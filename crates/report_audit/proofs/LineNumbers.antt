@@ -1,7 +1,7 @@
 -- The numbers of each line.
-use Rattle.std.proofs.Common.{◌≡◌, ℕ, suc, ℤ, pos, ◌^◌, ◌<◌, List, [], ◌∷◌, ◌++◌, append_assoc, refl, ap, ◌∙◌, arith}
+use Rattle.std.proofs.Common.{◌≡◌, ℕ, suc, ℤ, pos, ◌^◌, ◌<◌, List, [], ◌∷◌, ◌++◌, append_assoc, refl, ap, subst, ◌∙◌, arith}
 use Rattle.std.specs.Prelude.{codes, slice_index}
-use Rattle.std.specs.Fmt.{decimal}
+use Rattle.std.specs.Fmt.{decimal, signed_decimal}
 use Rattle.segment_layout.specs.declared.publication.Publication.{Publication}
 use Rattle.interval_now.specs.declared.answers.Answer.{Answer}
 use Rattle.interval_now.specs.declared.answers.Answer.TheVariants.{Time, Busy, PageBusy, Causality as Early}
@@ -124,9 +124,12 @@ time_six client call page t text later c k g r p is =
     let five : numbers_in 5 text ≡ client ∷ call ∷ t.generation ∷ t.row ∷ page ∷ [] = after_call 3 client call page (Time t) text later c k is ∙ ap (λ (ns : List ℕ). client ∷ call ∷ ns) (time_numbers page t later g r p) in
     record { generation_is = ap third five; row_is = ap fourth five; page_is = ap fifth five }
 
-early_spread : (as_of : ℕ) (c : Causality) (later : List ℕ) → c.as_of ≡ pos as_of → 44 ∷ (causality_text c ++ later) ≡ codes ",causality," ++ (decimal as_of ++ (44 ∷ (decimal c.mono ++ (10 ∷ later))))
+signed_spread : (c : Causality) (later : List ℕ) → 44 ∷ (causality_text c ++ later) ≡ codes ",causality," ++ (signed_decimal c.as_of ++ (44 ∷ (decimal c.mono ++ (10 ∷ later))))
 unfolding causality_text
-early_spread as_of c later is = rw is (simp append_assoc refl)
+signed_spread c later = simp append_assoc refl
+
+early_spread : (as_of : ℕ) (c : Causality) (later : List ℕ) → c.as_of ≡ pos as_of → 44 ∷ (causality_text c ++ later) ≡ codes ",causality," ++ (decimal as_of ++ (44 ∷ (decimal c.mono ++ (10 ∷ later))))
+early_spread as_of c later is = subst (λ (z : ℤ). 44 ∷ (causality_text c ++ later) ≡ codes ",causality," ++ (signed_decimal z ++ (44 ∷ (decimal c.mono ++ (10 ∷ later))))) is (signed_spread c later)
 
 early_numbers : (as_of : ℕ) (c : Causality) (later : List ℕ) → c.as_of ≡ pos as_of → as_of < 2 ^ 64 → c.mono < 2 ^ 64 → numbers_in 2 (44 ∷ (causality_text c ++ later)) ≡ as_of ∷ c.mono ∷ []
 early_numbers as_of c later is a m =

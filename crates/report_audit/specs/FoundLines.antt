@@ -3,7 +3,7 @@
 use Rattle.std.specs.Prelude.{◌≡◌, ◌≢◌, ℕ, ◌+◌, List, ◌∷◌, ◌++◌, Option, Some, None}
 use Rattle.std.specs.Borrow.{Bor}
 use Rattle.clock_gate.specs.declared.trace.Trace.{Trace}
-use Rattle.interval_now.specs.declared.answers.Answer.TheVariants.{Time, Busy}
+use Rattle.interval_now.specs.declared.answers.Answer.TheVariants.{Time, Busy, NotInitialized, PageBusy, Causality as Early}
 use Rattle.interval_now.specs.declared.answers.Answer.{Answer}
 use Rattle.interval_now.specs.declared.answers.Interval.{Interval}
 use Rattle.clock_gate.specs.ClockRow.{row_at}
@@ -22,7 +22,9 @@ use Rattle.lawful_report.specs.Lines.{skipped_line, answered_line}
 use Rattle.lawful_report.specs.Pages.{PageTriesFail, page_seen, marker_at}
 use Rattle.lawful_report.specs.Course.{Course, Life, poll_at, base_number}
 use Rattle.lawful_report.specs.declared.entry.Entry.{Entry}
-use Rattle.lawful_report.specs.Calls.{FailsAt, GivesInterval}
+use Rattle.lawful_report.specs.Calls.{GivesInterval, MayAnswer}
+use Rattle.lawful_report.specs.declared.call.Call.{Call}
+use Rattle.lawful_report.specs.declared.seen.Seen.{Seen}
 
 -- a skipped poll
 pub record SkipsTo (trace : Trace) (poll page : ℕ) (text : List ℕ) (seen : ℕ) (later : List ℕ) : Type 0 where
@@ -36,16 +38,47 @@ abbrev pub SkipFound : Trace → (poll page : ℕ) → List ℕ → Option (ℕ 
 SkipFound trace poll page text None = (first last : ℕ) (later : List ℕ) → PageTriesFail trace page first last → text ≢ skipped_line poll first last ++ later
 SkipFound trace poll page text (Some found) = SkipsTo trace poll page text found.0 found.1.now
 
--- a client's tries that all failed
-pub record FailsTo (period client call tries from until : ℕ) (text : List ℕ) (point : ℕ) (later : List ℕ) : Type 0 where
-  pub first : ℕ
-  pub last : ℕ
-  pub fails : FailsAt period from until first last point
-  pub begins : text ≡ answered_line client call 0 (Busy tries first last) ++ later
+-- ---- an answer
 
-abbrev pub BusyFound : (period client call tries from until : ℕ) → List ℕ → Option (ℕ × Bor (List ℕ)) → Type 0
-BusyFound period client call tries from until text None = (first last point : ℕ) (later : List ℕ) → FailsAt period from until first last point → text ≢ answered_line client call 0 (Busy tries first last) ++ later
-BusyFound period client call tries from until text (Some found) = FailsTo period client call tries from until text found.0 found.1.now
+-- an answer that may stand begins the text: what its client has seen then, and what follows the line
+pub record Answers (trace : Trace) (course : Course) (call : Call) (seen : Seen) (text : List ℕ) (after : Seen) (answer : Answer) (later : List ℕ) : Type 0 where
+  pub page : ℕ
+  pub may : MayAnswer trace course call.tries seen page answer after
+  pub begins : text ≡ answered_line call.client call.number page answer ++ later
+
+-- no answer of a kind that may stand begins the text
+abbrev pub NoAnswer : Trace → Course → Call → Seen → List ℕ → (Answer → Type 0) → Type 0
+NoAnswer trace course call seen text IsKind =
+    (page : ℕ) (answer : Answer) (after : Seen) (later : List ℕ) → IsKind answer → MayAnswer trace course call.tries seen page answer after
+    → text ≢ answered_line call.client call.number page answer ++ later
+
+abbrev pub AnswerFound : Trace → Course → Call → Seen → List ℕ → (Answer → Type 0) → Option (Seen × Answer × Bor (List ℕ)) → Type 0
+AnswerFound trace course call seen text IsKind None = NoAnswer trace course call seen text IsKind
+AnswerFound trace course call seen text IsKind (Some found) = Answers trace course call seen text found.0 found.1 found.2.now
+
+-- the kinds
+abbrev pub IsTimeAnswer : Answer → Type 0
+IsTimeAnswer (Time timed) = Unit {0}
+IsTimeAnswer other = ⊥
+
+abbrev pub IsBusyAnswer : Answer → Type 0
+IsBusyAnswer (Busy tries first last) = Unit {0}
+IsBusyAnswer other = ⊥
+
+abbrev pub IsNothingAnswer : Answer → Type 0
+IsNothingAnswer NotInitialized = Unit {0}
+IsNothingAnswer other = ⊥
+
+abbrev pub IsPageBusyAnswer : Answer → Type 0
+IsPageBusyAnswer (PageBusy first last) = Unit {0}
+IsPageBusyAnswer other = ⊥
+
+abbrev pub IsEarlyAnswer : Answer → Type 0
+IsEarlyAnswer (Early causality) = Unit {0}
+IsEarlyAnswer other = ⊥
+
+abbrev pub IsAnyAnswer : Answer → Type 0
+IsAnyAnswer answer = Unit {0}
 
 -- ---- an answer Time
 

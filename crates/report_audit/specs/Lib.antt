@@ -2,3 +2,4 @@ pub mod Leasts
 pub mod KnownPages
 pub mod Numbers
 pub mod FoundLines
+pub mod Auditor

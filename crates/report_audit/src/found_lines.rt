@@ -2,14 +2,12 @@
 ghost use Rattle.std.specs.Prelude.{◌≡◌, ◌<◌, ◌+◌, ◌^◌, IfOk, option_map};
 ghost use Rattle.clock_gate.specs.declared.trace.Trace.{Trace};
 ghost use Rattle.report_audit.specs.KnownPages.{KnowsPages};
-ghost use Rattle.report_audit.specs.FoundLines.{SkipFound, BusyFound};
+ghost use Rattle.report_audit.specs.FoundLines.{SkipFound};
 
 use crate::pages::{Pages, page_after};
-use crate::points::busy_point;
 use lawful_report::Printed;
 use crate::reading::{after_line, six_numbers};
 use clock_gate::Memory;
-use interval_now::Answer;
 use std::alloc::Global;
 
 /// The line of a poll that was skipped, where page `page` was seen before: the page that it tells, and what follows it.

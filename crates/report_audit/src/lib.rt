@@ -1,11 +1,15 @@
 //! The audit of a report of threads.
 #![tactic(auto)]
 
+mod answer_head;
+mod failed_answers;
 mod found_lines;
+mod known;
 mod leading;
 mod pages;
 mod points;
 mod poll_line;
+mod progress;
 mod reading;
 mod time_line;
 

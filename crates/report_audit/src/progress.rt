@@ -1,0 +1,19 @@
+use lawful_report::Entry;
+use status_machine::Daemon;
+
+/// What the daemon's lines have come to.
+#[derive(Debug, Drop)]
+pub struct Progress {
+    /// How many polls have their lines.
+    pub polled: u32,
+    /// The position before the first entry.
+    pub before: u64,
+    /// The records published, each with its rows.
+    pub entries: Vec<Entry>,
+    pub point: u64,
+    /// The clock row and the page that the daemon saw last.
+    pub row: u32,
+    pub page: u32,
+    /// The daemon, none while it is stopped.
+    pub life: Option<Daemon>,
+}
