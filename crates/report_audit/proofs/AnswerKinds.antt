@@ -1,5 +1,6 @@
 -- That no answer of a kind begins a text, said by what answers of that kind are.
-use Rattle.std.proofs.Common.{◌≡◌, ℕ, List, ◌++◌, sym, ap, subst, ◌∙◌}
+use Rattle.std.proofs.Common.{◌≡◌, ℕ, List, ◌++◌, Option, Some, None, Result, Ok, Err, Bor, sym, ap, subst, ◌∙◌}
+use Rattle.std.specs.Prelude.{IfOk}
 use Rattle.clock_gate.specs.declared.trace.Trace.{Trace}
 use Rattle.interval_now.specs.declared.answers.Answer.{Answer}
 use Rattle.interval_now.specs.declared.answers.Answer.TheVariants.{Time, Busy, NotInitialized, PageBusy, Causality as Early}
@@ -10,7 +11,7 @@ use Rattle.lawful_report.specs.declared.seen.Seen.{Seen}
 use Rattle.lawful_report.specs.Course.{Course}
 use Rattle.lawful_report.specs.Calls.{IsTime, IsBusy, IsPageBusy, IsEarly, MayAnswer}
 use Rattle.lawful_report.specs.Lines.{answered_line}
-use Rattle.report_audit.specs.FoundLines.{NoAnswer, IsTimeAnswer, IsBusyAnswer, IsNothingAnswer, IsPageBusyAnswer, IsEarlyAnswer, IsAnyAnswer}
+use Rattle.report_audit.specs.FoundLines.{NoAnswer, AnswerFound, IsTimeAnswer, IsBusyAnswer, IsNothingAnswer, IsPageBusyAnswer, IsEarlyAnswer, IsAnyAnswer}
 use Rattle.report_audit.proofs.PageFree.{busy_on, page_busy_on, early_on}
 
 on : (line other later text : List ℕ) → line ≡ other → text ≡ line ++ later → text ≡ other ++ later
@@ -65,3 +66,18 @@ no_answer trace course call seen text time early busy page_busy nothing page (Ea
 no_answer trace course call seen text time early busy page_busy nothing page (Busy tries first last) after later kind may begins = busy page (Busy tries first last) after later tt may begins
 no_answer trace course call seen text time early busy page_busy nothing page (PageBusy first last) after later kind may begins = page_busy page (PageBusy first last) after later tt may begins
 no_answer trace course call seen text time early busy page_busy nothing page NotInitialized after later kind may begins = nothing page NotInitialized after later tt may begins
+
+any_found : (trace : Trace) (course : Course) (call : Call) (seen : Seen) (text : List ℕ) (found : Option (Seen × Answer × Bor (List ℕ)))
+    → NoAnswer trace course call seen text IsTimeAnswer → NoAnswer trace course call seen text IsBusyAnswer → NoAnswer trace course call seen text IsPageBusyAnswer → NoAnswer trace course call seen text IsNothingAnswer
+    → AnswerFound trace course call seen text IsEarlyAnswer found → AnswerFound trace course call seen text IsAnyAnswer found
+any_found trace course call seen text None time busy page_busy nothing early = no_answer trace course call seen text time early busy page_busy nothing
+any_found trace course call seen text (Some one) time busy page_busy nothing early = early
+
+-- what the last kind gives is any answer, where no other kind begins the text
+pub last_kind : {E : Type 0} (trace : Trace) (call : Call) (seen : Seen) (text : List ℕ) (Shows : Course → Type 0) (result : Result (Option (Seen × Answer × Bor (List ℕ))) E)
+    → ((course : Course) → Shows course → NoAnswer trace course call seen text IsTimeAnswer) → ((course : Course) → Shows course → NoAnswer trace course call seen text IsBusyAnswer)
+    → ((course : Course) → Shows course → NoAnswer trace course call seen text IsPageBusyAnswer) → ((course : Course) → Shows course → NoAnswer trace course call seen text IsNothingAnswer)
+    → IfOk result (λ found. (course : Course) → Shows course → AnswerFound trace course call seen text IsEarlyAnswer found)
+    → IfOk result (λ found. (course : Course) → Shows course → AnswerFound trace course call seen text IsAnyAnswer found)
+last_kind trace call seen text Shows (Ok found) time busy page_busy nothing early = λ course shows. any_found trace course call seen text found (time course shows) (busy course shows) (page_busy course shows) (nothing course shows) (early course shows)
+last_kind trace call seen text Shows (Err e) time busy page_busy nothing early = tt

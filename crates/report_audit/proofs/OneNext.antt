@@ -45,11 +45,12 @@ busy_spread : (tries first last : ℕ) (x : List ℕ) → busy_text tries first 
 unfolding busy_text
 busy_spread tries first last x = simp append_assoc refl
 
-same_busy : (tries a b c d : ℕ) (x y : List ℕ) → tries < 2 ^ 64 → a < 2 ^ 64 → b < 2 ^ 64 → c < 2 ^ 64 → d < 2 ^ 64 → busy_text tries a b ++ x ≡ busy_text tries c d ++ y → (a ≡ c) × (b ≡ d) × (x ≡ y)
-same_busy tries a b c d x y p sa sb sc sd same =
+same_busy : (tries a b c d : ℕ) (x y : List ℕ) → a < 2 ^ 64 → b < 2 ^ 64 → c < 2 ^ 64 → d < 2 ^ 64 → busy_text tries a b ++ x ≡ busy_text tries c d ++ y → (a ≡ c) × (b ≡ d) × (x ≡ y)
+same_busy tries a b c d x y sa sb sc sd same =
     let spread = ap (λ (l : List ℕ). drop 5 l) (sym (busy_spread tries a b x) ∙ (same ∙ busy_spread tries c d y)) in
-    let one = next_same tries tries 44 (decimal a ++ (44 ∷ (decimal b ++ (10 ∷ x)))) (decimal c ++ (44 ∷ (decimal d ++ (10 ∷ y)))) refl p p spread in
-    let two = next_same a c 44 (decimal b ++ (10 ∷ x)) (decimal d ++ (10 ∷ y)) refl sa sc one.1 in
+    let one : decimal a ++ (44 ∷ (decimal b ++ (10 ∷ x))) ≡ decimal c ++ (44 ∷ (decimal d ++ (10 ∷ y))) =
+    ap (λ (l : List ℕ). drop 1 l) (append_cancel_left (decimal tries) (44 ∷ (decimal a ++ (44 ∷ (decimal b ++ (10 ∷ x))))) (44 ∷ (decimal c ++ (44 ∷ (decimal d ++ (10 ∷ y))))) spread) in
+    let two = next_same a c 44 (decimal b ++ (10 ∷ x)) (decimal d ++ (10 ∷ y)) refl sa sc one in
     let three = next_same b d 10 x y refl sb sd two.1 in
     (two.0, three.0, three.1)
 
@@ -100,7 +101,7 @@ same_letter page other a b x y same = sym (letter_is page a x) ∙ (ap (λ (l : 
 -- the numbers of an answer have 64 bits
 abbrev pub AnswerIsSmall : ℕ → Answer → Type 0
 AnswerIsSmall page (Time timed) = TimeIsSmall page timed
-AnswerIsSmall page (Busy tries first last) = (tries < 2 ^ 64) × (first < 2 ^ 64) × (last < 2 ^ 64)
+AnswerIsSmall page (Busy tries first last) = (first < 2 ^ 64) × (last < 2 ^ 64)
 AnswerIsSmall page NotInitialized = Unit {0}
 AnswerIsSmall page (PageBusy first last) = (first < 2 ^ 64) × (last < 2 ^ 64)
 AnswerIsSmall page (Early causality) = IsSmall causality.as_of × (causality.mono < 2 ^ 64)
@@ -145,8 +146,7 @@ one_answer trace course tries seen page other (Time t) (Time u) s1 s2 x y small_
     let is = same_time page other t u x y small_a small_b same in (one_time trace course seen page other t u s1 s2 is.0 one two, is.1)
 one_answer trace course tries seen page other (Busy m a b) (Busy n c d) s1 s2 x y small_a small_b one two same =
     let both : busy_text tries a b ++ x ≡ busy_text tries c d ++ y = subst (λ (k : ℕ). busy_text tries a b ++ x ≡ busy_text k c d ++ y) two.0 (subst (λ (k : ℕ). busy_text k a b ++ x ≡ busy_text n c d ++ y) one.0 same) in
-    let small : tries < 2 ^ 64 = subst (λ (k : ℕ). k < 2 ^ 64) one.0 small_a.0 in
-    let is = same_busy tries a b c d x y small small_a.1 small_a.2 small_b.1 small_b.2 both in (one_busy trace course seen a b c d s1 s2 is.0 is.1 one.1 two.1, is.2)
+    let is = same_busy tries a b c d x y small_a.0 small_a.1 small_b.0 small_b.1 both in (one_busy trace course seen a b c d s1 s2 is.0 is.1 one.1 two.1, is.2)
 one_answer trace course tries seen page other NotInitialized NotInitialized s1 s2 x y small_a small_b one two same = (one.1 ∙ sym two.1, append_cancel_left not_initialized_text x y same)
 one_answer trace course tries seen page other (PageBusy a b) (PageBusy c d) s1 s2 x y small_a small_b one two same =
     let is = same_page_busy a b c d x y small_a.0 small_a.1 small_b.0 small_b.1 same in

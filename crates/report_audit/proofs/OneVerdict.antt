@@ -256,7 +256,7 @@ one_verdict trace report number Fits small fits lawful unlawful =
     exclusive trace Fits small (standing_start trace) fits lawful.lines unlawful.lines lawful.after unlawful.standing unlawful.rest lawful.follow lawful.finished unlawful.follow unlawful.stuck (append-nil (text_of_lines lawful.lines) ∙ (sym lawful.text ∙ unlawful.text))
 
 -- nor is it unlawful first at two lines
-one_number : (trace : Trace) (Fits : Standing → Type 0) → KeepsSmall trace Fits → (s : Standing) → Fits s → (lines others : List Printed) (stopped ended : Standing) (x y : List ℕ) → Follow trace s lines stopped → IsStuck trace stopped x → Follow trace s others ended → IsStuck trace ended y → text_of_lines lines ++ x ≡ text_of_lines others ++ y → length lines ≡ length others
+pub one_number : (trace : Trace) (Fits : Standing → Type 0) → KeepsSmall trace Fits → (s : Standing) → Fits s → (lines others : List Printed) (stopped ended : Standing) (x y : List ℕ) → Follow trace s lines stopped → IsStuck trace stopped x → Follow trace s others ended → IsStuck trace ended y → text_of_lines lines ++ x ≡ text_of_lines others ++ y → length lines ≡ length others
 one_number trace Fits small s fits [] [] stopped ended x y follow stuck other caught same = refl
 one_number trace Fits small s fits [] (line ∷ others) stopped ended x y follow stuck other caught same =
     absurd (stuck.no_line line other.0 (text_of_lines others ++ y) (subst (λ (t : Standing). Follows trace t line other.0) follow other.1) (sym (no_text x) ∙ (same ∙ text_spread line others y)))

@@ -11,7 +11,7 @@ pub period_some : (layout : Layout) → 0 < period_of layout
 period_some Two = omega arith
 period_some Three = omega arith
 
-period_most : (layout : Layout) → 2 * period_of layout + 1 < 2 ^ 32
+pub period_most : (layout : Layout) → 2 * period_of layout + 1 < 2 ^ 32
 period_most Two = omega arith
 period_most Three = omega arith
 

@@ -1,6 +1,6 @@
 -- What an auditor finds at the head of a text: a line of one kind that may stand there, with what follows it, or that no such
 -- line begins the text.
-use Rattle.std.specs.Prelude.{◌≡◌, ◌≢◌, ℕ, ◌+◌, List, ◌∷◌, ◌++◌, Option, Some, None}
+use Rattle.std.specs.Prelude.{◌≡◌, ◌≢◌, ◌≤◌, ◌<◌, ℕ, pos, ◌+◌, ◌/◌, List, ◌∷◌, ◌++◌, Option, Some, None, IfSome}
 use Rattle.std.specs.Borrow.{Bor}
 use Rattle.clock_gate.specs.declared.trace.Trace.{Trace}
 use Rattle.interval_now.specs.declared.answers.Answer.TheVariants.{Time, Busy, NotInitialized, PageBusy, Causality as Early}
@@ -9,20 +9,21 @@ use Rattle.interval_now.specs.declared.answers.Interval.{Interval}
 use Rattle.clock_gate.specs.ClockRow.{row_at}
 use Rattle.clock_gate.specs.declared.clock_row.ClockRow.{ClockRow}
 use Rattle.clock_gate.specs.declared.trace.PollRow.{PollRow}
+use Rattle.segment_layout.specs.declared.publication.Publication.{Publication}
 use Rattle.segment_layout.specs.Record.{RecordFields}
 use Rattle.status_machine.specs.declared.daemon.Daemon.{Daemon}
 use Rattle.status_machine.specs.declared.heard.Heard.{Heard}
-use Rattle.status_machine.specs.Poll.{heard_of}
+use Rattle.status_machine.specs.Poll.{heard_of, BaseFits}
 use Rattle.status_machine.specs.Incarnation.{record_at, base_at}
 use Rattle.status_machine.specs.Step.{ShowsPast}
 use Rattle.generation_word.specs.Layout.{period_of}
 use Rattle.lawful_report.specs.Points.{IsLeast}
 use Rattle.report_audit.specs.Leasts.{NoneHas}
-use Rattle.lawful_report.specs.Lines.{skipped_line, answered_line}
+use Rattle.lawful_report.specs.Lines.{skipped_line, answered_line, published_line}
 use Rattle.lawful_report.specs.Pages.{PageTriesFail, page_seen, marker_at}
-use Rattle.lawful_report.specs.Course.{Course, Life, poll_at, base_number}
+use Rattle.lawful_report.specs.Course.{Course, Life, entry_at, entry_of, poll_at, base_number, IsPublished}
 use Rattle.lawful_report.specs.declared.entry.Entry.{Entry}
-use Rattle.lawful_report.specs.Calls.{GivesInterval, MayAnswer}
+use Rattle.lawful_report.specs.Calls.{GivesInterval, HasAsOf, MayAnswer}
 use Rattle.lawful_report.specs.declared.call.Call.{Call}
 use Rattle.lawful_report.specs.declared.seen.Seen.{Seen}
 
@@ -119,6 +120,26 @@ LeastTime trace course client call generation row page from until text (Some fou
     IsLeast from until (TimeFits trace course client call generation row page text) found.0
     × (GivesInterval trace course generation row page found.1.0 found.0 × (text ≡ answered_line client call page (time_said generation row found.1.0) ++ found.1.1.now))
 
+-- a client that has seen this may name these: the generation of a record, a row of so many and a page up to the last
+pub record PlaceFits (seen : Seen) (rows last generation row page : ℕ) : Type 0 where
+  pub published : 0 < generation
+  pub row_kept : seen.row ≤ row
+  pub row_done : row ≤ rows
+  pub page_kept : seen.page ≤ page
+  pub page_done : page ≤ last
+
+-- ---- an answer before its record
+
+-- the least point whose record has this as-of, with the row of its reply, or that there is none
+abbrev pub AsOfFound : Course → (as_of from until : ℕ) → Option (ℕ × ℕ) → Type 0
+AsOfFound course as_of from until None = NoneHas from until (HasAsOf course (pos as_of))
+AsOfFound course as_of from until (Some found) =
+    IsLeast from until (HasAsOf course (pos as_of)) found.0 × ((entry : Entry) → entry_at course (found.0 / 2) ≡ Some entry → entry.replied ≡ found.1)
+
+-- a row with this mono
+abbrev pub HasMonoAt : List ClockRow → (mono row : ℕ) → Type 0
+HasMonoAt clock mono row = (row_at clock row).mono ≡ mono
+
 -- ---- a publication
 
 -- what of a trace and of the daemon's lines is needed to make the publication of a poll with this page
@@ -134,3 +155,27 @@ pub record Polled (trace : Trace) (course : Course) (life : Life) (row : PollRow
   pub rec_is : rec ≡ record_at life.from (poll_at trace course asked page row) life.past
   pub base_is : base ≡ base_number (base_at life.from (poll_at trace course asked page row ∷ life.past))
   pub shows : ShowsPast life.from (poll_at trace course asked page row ∷ life.past) daemon
+
+-- a poll may name these after a row and a page that its daemon saw: two rows of so many, and a page up to the last
+pub record RowsFit (row seen rows last asked page replied : ℕ) : Type 0 where
+  pub asked_kept : row ≤ asked
+  pub order : asked ≤ replied
+  pub done : replied ≤ rows
+  pub page_kept : seen ≤ page
+  pub page_done : page ≤ last
+
+-- the publication of a poll begins the text: the entry that it gives, the daemon after it, and what follows
+pub record Publishes (trace : Trace) (course : Course) (life : Life) (row : PollRow) (text : List ℕ) (entry : Entry) (daemon : Daemon) (later : List ℕ) : Type 0 where
+  pub position : ℕ
+  pub page : ℕ
+  pub publication : Publication
+  pub is : IsPublished trace course life row position page publication
+  pub begins : text ≡ published_line position page publication ++ later
+  pub entry_is : entry ≡ entry_of life (poll_at trace course publication.asked page row) publication.replied page
+  pub shows : ShowsPast life.from (poll_at trace course publication.asked page row ∷ life.past) daemon
+  pub base : IfSome daemon.base BaseFits
+
+abbrev pub PublicationFound : Trace → Course → Life → PollRow → List ℕ → Option (Entry × Daemon × Bor (List ℕ)) → Type 0
+PublicationFound trace course life row text None =
+    (position page : ℕ) (publication : Publication) (later : List ℕ) → IsPublished trace course life row position page publication → text ≢ published_line position page publication ++ later
+PublicationFound trace course life row text (Some found) = Publishes trace course life row text found.0 found.1 found.2.now

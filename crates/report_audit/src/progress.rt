@@ -1,5 +1,8 @@
+ghost use Rattle.std.specs.Prelude.{◌≡◌, ◌++◌, [], ◌∷◌, OnOk};
+
 use lawful_report::Entry;
 use status_machine::Daemon;
+use std::alloc::AllocError;
 
 /// What the daemon's lines have come to.
 #[derive(Debug, Drop)]
@@ -16,4 +19,12 @@ pub struct Progress {
     pub page: u32,
     /// The daemon, none while it is stopped.
     pub life: Option<Daemon>,
+}
+
+/// Appends an entry.
+pub fn push_entry(entries: &mut Vec<Entry>, entry: Entry) -> Result<(), AllocError>
+    ensures { OnOk result (entries.new.items ≡ entries.old.items ++ entry ∷ []) }
+{
+    entries.push(entry)?;
+    Ok(())
 }

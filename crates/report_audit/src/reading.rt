@@ -1,5 +1,5 @@
 //! Lines read from a report: the numbers that a line has, and whether a text begins with a line.
-ghost use Rattle.std.specs.Prelude.{◌≡◌, ◌≢◌, ℕ, List, ◌++◌, IfOk, IfSome, IfNone};
+ghost use Rattle.std.specs.Prelude.{◌≡◌, ◌≢◌, ◌≤◌, ◌<◌, ◌+◌, ◌^◌, ℕ, List, ◌++◌, slice_index, IfOk, IfSome, IfNone};
 ghost use Rattle.lawful_report.specs.Lines.{line_text};
 ghost use Rattle.report_audit.specs.Numbers.{from_digit, next_number, numbers_in};
 
@@ -51,4 +51,23 @@ pub fn six_numbers(text: &[u8]) -> [u64; 6]
     let (e, text) = next_number(text);
     let (f, _) = next_number(text);
     [a, b, c, d, e, f]
+}
+
+/// Three numbers of a text in a row, from the one at this place on; `None` exactly where one of them has more than 32 bits.
+pub fn three_at(text: &[u8], at: usize) -> Option<(u32, u32, u32)>
+    requires { at ≤ 3 }
+    ensures found { IfSome result (λ r. (r.0 ≡ slice_index (numbers_in 6 text.now) at) × (r.1 ≡ slice_index (numbers_in 6 text.now) (at + 1)) × (r.2 ≡ slice_index (numbers_in 6 text.now) (at + 2))) }
+    ensures large { IfNone result (slice_index (numbers_in 6 text.now) at < 2 ^ 32 → slice_index (numbers_in 6 text.now) (at + 1) < 2 ^ 32 → slice_index (numbers_in 6 text.now) (at + 2) < 2 ^ 32 → ⊥) }
+{
+    let numbers = six_numbers(text);
+    let Ok(first) = u32::try_from(numbers[at]) else {
+        return None;
+    };
+    let Ok(second) = u32::try_from(numbers[at + 1]) else {
+        return None;
+    };
+    let Ok(third) = u32::try_from(numbers[at + 2]) else {
+        return None;
+    };
+    Some((first, second, third))
 }

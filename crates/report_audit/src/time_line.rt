@@ -25,7 +25,8 @@ pub struct TimePlace {
     pub page: u32,
 }
 
-fn entry_at(entries: &[Entry], before: u64, position: u64) -> Option<Entry>
+/// The entry at a position, where the entries begin after the position `before`.
+pub fn entry_at(entries: &[Entry], before: u64, position: u64) -> Option<Entry>
     ensures { result ≡ (if nat_lt before position then slice_get entries.now (position - before - 1) else None) }
 {
     if position <= before {
