@@ -1,5 +1,5 @@
 -- That no answer of a kind begins a text, said by what answers of that kind are.
-use Rattle.std.proofs.Common.{◌≡◌, ℕ, List, ◌++◌, Option, Some, None, Result, Ok, Err, Bor, sym, ap, subst, ◌∙◌}
+use Rattle.std.proofs.Common.{◌≡◌, ℕ, List, ◌++◌, Option, Some, None, Result, Ok, Err, Bor, ap, subst, ◌∙◌}
 use Rattle.std.specs.Prelude.{IfOk}
 use Rattle.clock_gate.specs.declared.trace.Trace.{Trace}
 use Rattle.interval_now.specs.declared.answers.Answer.{Answer}
@@ -9,7 +9,7 @@ use Rattle.interval_now.specs.declared.answers.Timed.{Timed}
 use Rattle.lawful_report.specs.declared.call.Call.{Call}
 use Rattle.lawful_report.specs.declared.seen.Seen.{Seen}
 use Rattle.lawful_report.specs.Course.{Course}
-use Rattle.lawful_report.specs.Calls.{IsTime, IsBusy, IsPageBusy, IsEarly, MayAnswer}
+use Rattle.lawful_report.specs.Calls.{IsTime, IsBusy, IsPageBusy, IsEarly}
 use Rattle.lawful_report.specs.Lines.{answered_line}
 use Rattle.report_audit.specs.FoundLines.{NoAnswer, AnswerFound, IsTimeAnswer, IsBusyAnswer, IsNothingAnswer, IsPageBusyAnswer, IsEarlyAnswer, IsAnyAnswer}
 use Rattle.report_audit.proofs.PageFree.{busy_on, page_busy_on, early_on}

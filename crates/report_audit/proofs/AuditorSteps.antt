@@ -1,5 +1,5 @@
 -- What an auditor's steps rest on: equal parts give equal wholes.
-use Rattle.std.proofs.Common.{◌≡◌, ℕ, zero, suc, ◌+◌, ◌*◌, ◌/◌, Bool, true, false, List, [], ◌∷◌, ◌++◌, drop, Option, Some, None, Result, Ok, Err, arith, refl, sym, ap, subst, ◌∙◌}
+use Rattle.std.proofs.Common.{◌≡◌, ℕ, zero, suc, Bool, true, false, List, [], ◌∷◌, ◌++◌, drop, Option, Some, None, Result, Ok, Err, arith, refl, sym, ap, subst, ◌∙◌}
 use Rattle.std.specs.Prelude.{◌==◌, ◌&&◌, if◌then◌else◌, slice_get, IfOk}
 use Rattle.std.proofs.lemmas.Option.{slice_get_past}
 use Rattle.clock_gate.specs.declared.trace.Trace.{Trace}
@@ -14,7 +14,7 @@ use Rattle.lawful_report.specs.declared.call.Call.{Call}
 use Rattle.lawful_report.specs.declared.seen.Seen.{Seen}
 use Rattle.lawful_report.specs.Calls.{seen_first}
 use Rattle.lawful_report.specs.Course.{Life, is_old_in, keeps}
-use Rattle.lawful_report.specs.Lawful.{Due, Moving, Polling, seen_before}
+use Rattle.lawful_report.specs.Lawful.{Moving, Polling, seen_before}
 use Rattle.report_audit.specs.Auditor.{ShowsLife}
 use Rattle.lawful_report.specs.Points.{segment_at}
 use Rattle.report_audit.specs.NextLine.{ShowsDue}

@@ -1,19 +1,16 @@
 -- Lines that stand alone where they are due: each line that may stand there has the same text.
-use Rattle.std.proofs.Common.{◌≡◌, ◌≢◌, ℕ, ◌+◌, ◌/◌, List, [], ◌∷◌, ◌++◌, Option, Some, None, refl, sym, ap, subst, ◌∙◌, rules}
-use Rattle.std.specs.Prelude.{slice_get}
+use Rattle.std.proofs.Common.{◌≡◌, ◌≢◌, ℕ, ◌+◌, ◌/◌, List, [], ◌∷◌, ◌++◌, Option, Some, None, refl, sym, ap, subst, ◌∙◌}
 use Rattle.clock_gate.specs.declared.trace.PollRow.{PollRow}
 use Rattle.clock_gate.specs.declared.trace.Trace.{Trace}
 use Rattle.segment_layout.specs.declared.publication.Publication.{Publication}
 use Rattle.segment_layout.specs.declared.start.Start.{Start}
-use Rattle.interval_now.specs.declared.answers.Answer.{Answer}
 use Rattle.lawful_report.specs.declared.call.Call.{Call}
 use Rattle.lawful_report.specs.declared.counts.Counts.{Counts}
-use Rattle.lawful_report.specs.declared.printed.Printed.{Printed}
 use Rattle.lawful_report.specs.declared.printed.Printed.TheVariants.{Header, Opened, Published, Skipped, Stopped, Moved, Answered, Total}
 use Rattle.lawful_report.specs.declared.seen.Seen.{Seen}
-use Rattle.lawful_report.specs.Course.{Course, Life, start_found, next_generation, IsPublished}
-use Rattle.lawful_report.specs.Lawful.{Due, Heading, Opening, Moving, Polling, Stopping, Answering, Finished, Standing, FollowsAt, counts_list, DoesNotStop, PollsHere, StopsHere, PublishesHere}
-use Rattle.lawful_report.specs.Lines.{line_text, published_line, skipped_line, stopped_line, answered_line}
+use Rattle.lawful_report.specs.Course.{Course, start_found, next_generation}
+use Rattle.lawful_report.specs.Lawful.{Heading, Opening, Moving, Polling, Stopping, Answering, Finished, Standing, counts_list, StopsHere, PublishesHere}
+use Rattle.lawful_report.specs.Lines.{line_text, published_line, skipped_line, stopped_line}
 use Rattle.report_audit.specs.FoundLines.{NoAnswer, IsAnyAnswer}
 use Rattle.report_audit.specs.NextLine.{NoLine, NoSkip, at}
 use Rattle.lawful_report.specs.Lawful.{seen_before}

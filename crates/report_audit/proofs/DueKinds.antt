@@ -1,9 +1,8 @@
 -- An auditor waits for the kind of line that its standing has due.
-use Rattle.std.proofs.Common.{◌≡◌, ℕ, List, drop, Option, Result, Ok, Err, refl, sym, subst, ◌∙◌}
+use Rattle.std.proofs.Common.{◌≡◌, ℕ, List, drop, Option, Result, Ok, Err, refl, sym, subst}
 use Rattle.std.specs.Borrow.{Bor}
 use Rattle.std.specs.Prelude.{IfOk}
 use Rattle.clock_gate.specs.declared.trace.Trace.{Trace}
-use Rattle.lawful_report.specs.declared.call.Call.{Call}
 use Rattle.lawful_report.specs.Course.{Course}
 use Rattle.lawful_report.specs.declared.counts.Counts.{Counts}
 use Rattle.lawful_report.specs.declared.seen.Seen.{Seen}

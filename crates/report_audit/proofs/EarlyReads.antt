@@ -1,12 +1,10 @@
 -- The numbers of an answer before its record.
-use Rattle.std.proofs.Common.{◌≡◌, ℕ, ℤ, pos, negsuc, ◌+◌, ◌-◌, ◌/◌, ◌^◌, ◌<◌, ◌≤◌, List, ◌++◌, length, slice_index_or, refl, sym, ap, subst, ◌∙◌, arith, inl, inr}
+use Rattle.std.proofs.Common.{◌≡◌, ℕ, ℤ, pos, negsuc, ◌+◌, ◌-◌, ◌/◌, ◌^◌, ◌<◌, ◌≤◌, List, ◌++◌, length, slice_index_or, refl, ap, subst, ◌∙◌, arith}
 use Rattle.std.specs.Prelude.{All, ◌<ℤ◌, ◌≤ℤ◌}
 use Rattle.std.proofs.lemmas.Int.{ints}
-use Rattle.std.proofs.lemmas.Bool.{cases_lt}
 use Rattle.std.proofs.lemmas.List.Elements.{All-get_or}
 use Rattle.clock_gate.specs.ClockRow.{IsClock, KeepsMoments, row_at, no_row}
 use Rattle.clock_gate.specs.declared.clock_row.ClockRow.{ClockRow}
-use Rattle.clock_gate.specs.declared.limits.TheConstants.{LAST_MOMENT}
 use Rattle.clock_gate.specs.declared.trace.Trace.{Trace}
 use Rattle.interval_now.specs.declared.answers.Answer.TheVariants.{Causality as Early}
 use Rattle.interval_now.specs.declared.answers.Causality.{Causality}

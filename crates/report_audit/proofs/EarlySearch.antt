@@ -1,14 +1,13 @@
 -- The search for the record and the row of an answer before its record.
-use Rattle.std.proofs.Common.{◌≡◌, ℕ, ℤ, pos, ◌+◌, ◌/◌, ◌<◌, ◌≤◌, List, length, Some, refl, sym, ap, subst, ◌∙◌, arith, rules}
+use Rattle.std.proofs.Common.{◌≡◌, ℕ, ℤ, pos, ◌+◌, ◌/◌, ◌<◌, ◌≤◌, length, Some, refl, sym, subst, ◌∙◌, arith, rules}
 use Rattle.std.specs.Prelude.{◌<ℤ◌}
 use Rattle.std.proofs.lemmas.Int.{ints}
-use Rattle.clock_gate.specs.ClockRow.{row_at}
 use Rattle.clock_gate.specs.declared.trace.Trace.{Trace}
 use Rattle.interval_now.specs.declared.answers.Causality.{Causality}
 use Rattle.lawful_report.specs.declared.entry.Entry.{Entry}
 use Rattle.lawful_report.specs.declared.seen.Seen.{Seen}
 use Rattle.lawful_report.specs.Course.{Course, entry_at}
-use Rattle.lawful_report.specs.Calls.{IsEarly, HasAsOf, HasMono}
+use Rattle.lawful_report.specs.Calls.{IsEarly, HasAsOf}
 use Rattle.lawful_report.specs.Points.{IsLeast}
 use Rattle.report_audit.specs.FoundLines.{HasMonoAt}
 use Rattle.report_audit.proofs.Unique.{one_least}

@@ -1,9 +1,9 @@
 -- A report has one verdict.
-use Rattle.std.proofs.Common.{◌≡◌, ℕ, ◌+◌, List, ◌++◌, length, refl, sym, ap, subst, ◌∙◌, arith}
+use Rattle.std.proofs.Common.{◌≡◌, ℕ, List, length, refl, sym, ap, subst, ◌∙◌, arith}
 use Rattle.std.specs.Prelude.{◌↔◌}
 use Rattle.clock_gate.specs.Trace.{IsLawfulTrace}
 use Rattle.clock_gate.specs.declared.trace.Trace.{Trace}
-use Rattle.lawful_report.specs.Lawful.{standing_start, text_of_lines, IsLawfulReport, IsFirstUnlawful}
+use Rattle.lawful_report.specs.Lawful.{standing_start, IsLawfulReport, IsFirstUnlawful}
 use Rattle.report_audit.specs.Auditor.{StartIsSmall}
 use Rattle.report_audit.specs.Verdicts.{IsVerdict}
 use Rattle.report_audit.specs.declared.verdict.Verdict.{Verdict}

@@ -1,9 +1,7 @@
 -- Each line that may stand keeps the sizes.
-use Rattle.std.proofs.Common.{◌≡◌, inl, inr, ℕ, zero, suc, Bool, true, false, ◌+◌, ◌*◌, ◌/◌, ◌%◌, ◌^◌, ◌<◌, ◌≤◌, List, [], ◌∷◌, ◌++◌, length, Option, Some, None, refl, sym, subst, ◌∙◌, arith}
-use Rattle.std.specs.Prelude.{◌==◌, if◌then◌else◌, is_some, slice_get, IfSome}
-use Rattle.std.proofs.lemmas.Option.{slice_get_within}
+use Rattle.std.proofs.Common.{◌≡◌, inl, inr, ℕ, suc, Bool, true, false, ◌+◌, ◌*◌, ◌/◌, ◌%◌, ◌^◌, ◌<◌, ◌≤◌, List, [], ◌∷◌, length, refl, sym, subst, arith}
+use Rattle.std.specs.Prelude.{◌==◌, if◌then◌else◌, IfSome}
 use Rattle.clock_gate.specs.ClockRow.{IsClock}
-use Rattle.clock_gate.specs.declared.trace.PollRow.{PollRow}
 use Rattle.clock_gate.specs.declared.trace.Trace.{Trace}
 use Rattle.segment_layout.specs.declared.publication.Publication.{Publication}
 use Rattle.segment_layout.specs.declared.start.Start.{Start}
@@ -18,17 +16,15 @@ use Rattle.generation_word.specs.Numbering.{generation_at}
 use Rattle.segment_layout.specs.Words.{flag_of}
 use Rattle.lawful_report.specs.declared.call.Call.{Call}
 use Rattle.lawful_report.specs.declared.counts.Counts.{Counts}
-use Rattle.lawful_report.specs.declared.entry.Entry.{Entry}
 use Rattle.lawful_report.specs.declared.printed.Printed.{Printed}
 use Rattle.lawful_report.specs.declared.printed.Printed.TheVariants.{Header, Opened, Published, Skipped, Stopped, Moved, Answered, Total}
 use Rattle.lawful_report.specs.declared.seen.Seen.{Seen}
-use Rattle.lawful_report.specs.Calls.{seen_first, calls_of, MayAnswer, FailsAt}
-use Rattle.lawful_report.specs.Course.{Course, Life, last_entry, first_entry, start_found, is_move, life_from, poll_at, entry_of, skipped, stopped, point_stopped, published, ended}
-use Rattle.lawful_report.specs.Lawful.{Due, Heading, Opening, Moving, Polling, Stopping, Answering, Finished, Standing, one_answer, one_publication, going_on, has_stop, seen_before, OpensHere, MovesHere, SkipsHere, StopsHere, PublishesHere, StopsAfter, AnswersHere, FollowsAt, Follow}
+use Rattle.lawful_report.specs.Calls.{seen_first, MayAnswer, FailsAt}
+use Rattle.lawful_report.specs.Course.{Course, last_entry, first_entry, start_found, is_move, life_from, poll_at, entry_of, skipped, stopped, published, ended}
+use Rattle.lawful_report.specs.Lawful.{Due, Heading, Opening, Moving, Polling, Stopping, Answering, Finished, Standing, one_publication, going_on, has_stop, seen_before, OpensHere, MovesHere, SkipsHere, StopsHere, PublishesHere, StopsAfter, AnswersHere, FollowsAt, Follow}
 use Rattle.lawful_report.specs.Pages.{last_page, page_seen}
-use Rattle.report_audit.specs.Auditor.{EntryFits}
 use Rattle.report_audit.proofs.EarlyReads.{row_moments}
-use Rattle.report_audit.proofs.KeptSizes.{LifeFits, KeptLife, KeptCourse, KeptCounts, KeptSeen, DaemonSizes, ClientSizes, FinishedSizes, KeptDue, Kept, base_kept, bounds_by, last_fits, seen_fits, push_entry, goes_on, due_opened, counts_more, counts_published, counts_answered}
+use Rattle.report_audit.proofs.KeptSizes.{LifeFits, KeptLife, KeptCourse, KeptCounts, KeptSeen, DaemonSizes, ClientSizes, KeptDue, Kept, base_kept, bounds_by, last_fits, seen_fits, push_entry, goes_on, due_opened, counts_more, counts_published, counts_answered}
 
 -- the limits of the trace that the sizes rest on
 pub record Limits (trace : Trace) : Type 0 where

@@ -1,40 +1,30 @@
 -- What lines that follow one another keep: the records within their bounds, and the numbers within their sizes. `n` counts the lines.
-use Rattle.std.proofs.Common.{◌≡◌, inl, inr, ℕ, ℤ, zero, suc, pos, Bool, true, false, ◌+◌, ◌-◌, ◌*◌, ◌/◌, ◌^◌, ◌<◌, ◌≤◌, List, [], ◌∷◌, ◌++◌, length, Option, Some, None, Result, Ok, Err, refl, sym, ap, subst, ◌∙◌, arith}
-use Rattle.std.specs.Prelude.{◌==◌, ◌&&◌, not, nat_lt, if◌then◌else◌, is_some, slice_get, All, IfSome, ◌+ℤ◌}
+use Rattle.std.proofs.Common.{◌≡◌, ℕ, pos, Bool, true, false, ◌+◌, ◌*◌, ◌/◌, ◌^◌, ◌<◌, ◌≤◌, List, [], ◌∷◌, ◌++◌, length, Option, Some, None, refl, arith}
+use Rattle.std.specs.Prelude.{◌==◌, ◌&&◌, not, nat_lt, if◌then◌else◌, is_some, All, IfSome, ◌+ℤ◌}
 use Rattle.std.proofs.lemmas.Bool.{and_parts}
 use Rattle.std.proofs.lemmas.Bool.Decides.{nat_tests}
 use Rattle.std.proofs.lemmas.Int.{ints}
-use Rattle.std.proofs.lemmas.Option.{slice_get_within}
 use Rattle.std.proofs.lemmas.List.Elements.{All-append, All-cons, All-nil}
-use Rattle.clock_gate.specs.ClockRow.{IsClock, reading_at, row_at}
-use Rattle.clock_gate.specs.Trace.{IsLawfulTrace}
 use Rattle.clock_gate.specs.declared.clock_status.ClockStatus.{ClockStatus}
 use Rattle.clock_gate.specs.declared.clock_status.ClockStatus.TheVariants.{Unknown, Synchronized, FreeRunning, Disrupted}
 use Rattle.clock_gate.specs.declared.limits.TheConstants.{LAST_MOMENT}
-use Rattle.clock_gate.specs.declared.trace.PollRow.{PollRow}
 use Rattle.clock_gate.specs.declared.trace.Trace.{Trace}
-use Rattle.segment_layout.specs.History.{start_seen}
 use Rattle.segment_layout.specs.Record.{RecordFields, KeepsBounds}
-use Rattle.segment_layout.specs.declared.publication.Publication.{Publication}
-use Rattle.segment_layout.specs.declared.start.Start.{Start}
 use Rattle.segment_layout.specs.declared.start.Start.TheVariants.{Fresh, Kept as Found, Torn}
 use Rattle.status_machine.specs.declared.base.Base.{Base}
 use Rattle.status_machine.specs.declared.poll.Poll.{Poll}
-use Rattle.status_machine.specs.Incarnation.{Incarnation, base_at, record_at, start_base, as_of_by, bound_by, is_disrupted}
+use Rattle.status_machine.specs.Incarnation.{Incarnation, base_at, as_of_by, bound_by, is_disrupted}
 use Rattle.status_machine.specs.Poll.{BaseFits, is_good, base_of_poll}
-use Rattle.status_machine.proofs.Fits.{StartFits, base_of_poll-fits, begun-fits}
+use Rattle.status_machine.proofs.Fits.{StartFits, base_of_poll-fits}
 use Rattle.interval_now.specs.declared.answers.Answer.{Answer}
 use Rattle.interval_now.specs.declared.answers.Answer.TheVariants as answer
-use Rattle.lawful_report.specs.declared.call.Call.{Call}
 use Rattle.lawful_report.specs.declared.counts.Counts.{Counts}
 use Rattle.lawful_report.specs.declared.entry.Entry.{Entry}
-use Rattle.lawful_report.specs.declared.printed.Printed.{Printed}
-use Rattle.lawful_report.specs.declared.printed.Printed.TheVariants.{Header, Opened, Published, Skipped, Stopped, Moved, Answered, Total}
 use Rattle.lawful_report.specs.declared.seen.Seen.{Seen}
-use Rattle.lawful_report.specs.Calls.{seen_first, calls_of, MayAnswer}
-use Rattle.lawful_report.specs.Course.{Course, Life, entry_at, entry_or_none, last_entry, first_entry, start_found, is_move, opened, moved, life_from, poll_at, entry_of, skipped, stopped, point_stopped, published, ended, course_start}
-use Rattle.lawful_report.specs.Lawful.{Due, Heading, Opening, Moving, Polling, Stopping, Answering, Finished, Standing, standing_start, no_counts, one_time, one_answer, one_publication, going_on, opening_or_poll, due_next, after_publication, has_stop, seen_before, OpensHere, MovesHere, SkipsHere, StopsHere, PublishesHere, StopsAfter, AnswersHere, FollowsAt, Follows}
-use Rattle.lawful_report.specs.Pages.{last_page, page_seen}
+use Rattle.lawful_report.specs.Calls.{seen_first, calls_of}
+use Rattle.lawful_report.specs.Course.{Course, Life, entry_at, entry_or_none, last_entry, is_move, course_start}
+use Rattle.lawful_report.specs.Lawful.{Due, Heading, Opening, Moving, Polling, Stopping, Answering, Finished, Standing, standing_start, one_time, one_answer, one_publication, going_on, opening_or_poll}
+use Rattle.lawful_report.specs.Pages.{last_page}
 use Rattle.report_audit.specs.Auditor.{EntryFits}
 use Rattle.report_audit.proofs.EntryPoints.{all_entries}
 

@@ -1,6 +1,6 @@
 -- The numbers of the line of a publication, and what it publishes.
-use Rattle.std.proofs.Common.{◌≡◌, ℕ, ◌+◌, ◌*◌, ◌/◌, ◌^◌, ◌<◌, ◌≤◌, List, [], ◌∷◌, ◌++◌, length, Option, Some, None, refl, sym, ap, subst, ◌∙◌, arith, true, Bool}
-use Rattle.std.specs.Prelude.{slice_index, slice_get, is_some, IfSome}
+use Rattle.std.proofs.Common.{◌≡◌, ℕ, ◌+◌, ◌/◌, ◌^◌, ◌<◌, ◌≤◌, List, ◌∷◌, ◌++◌, length, Option, Some, None, refl, sym, ap, ◌∙◌, arith}
+use Rattle.std.specs.Prelude.{slice_index, is_some, IfSome}
 use Rattle.std.proofs.lemmas.Option.{slice_get-get_or}
 use Rattle.clock_gate.specs.declared.limits.TheConstants.{MOST_HOST_ROWS}
 use Rattle.clock_gate.specs.declared.trace.HostRow.{HostRow}
@@ -16,9 +16,9 @@ use Rattle.status_machine.specs.declared.daemon.Daemon.{Daemon}
 use Rattle.status_machine.specs.Incarnation.{record_at, base_at}
 use Rattle.status_machine.specs.Poll.{BaseFits}
 use Rattle.lawful_report.specs.declared.entry.Entry.{Entry}
-use Rattle.lawful_report.specs.Course.{Course, Life, poll_at, base_number, entry_of, IsPublished}
+use Rattle.lawful_report.specs.Course.{Course, Life, poll_at, base_number, IsPublished}
 use Rattle.lawful_report.specs.Pages.{last_page, marker_at, marker_from, row_markers}
-use Rattle.lawful_report.specs.Lines.{published_line, published_place, published_rows, published_bound, published_base}
+use Rattle.lawful_report.specs.Lines.{published_line, published_place, published_rows, published_base}
 use Rattle.report_audit.specs.Auditor.{ShowsCourse}
 use Rattle.report_audit.specs.declared.progress.Progress.{Progress}
 use Rattle.report_audit.specs.FoundLines.{RowsFit, Publishes, Polled}

@@ -1,5 +1,5 @@
 -- Where an audit has come, and what it may count on there.
-use Rattle.std.proofs.Common.{◌≡◌, ℕ, suc, ◌+◌, ◌*◌, ◌^◌, ◌<◌, ◌≤◌, List, [], ◌∷◌, ◌++◌, length, length-append, append_assoc, append-nil, Option, Some, None, Result, Ok, Err, refl, sym, ap, subst, ◌∙◌, arith}
+use Rattle.std.proofs.Common.{◌≡◌, ℕ, ◌+◌, ◌*◌, ◌^◌, ◌<◌, ◌≤◌, List, [], ◌∷◌, ◌++◌, length, length-append, append_assoc, append-nil, Option, Some, None, Result, Ok, Err, refl, sym, ap, subst, ◌∙◌, arith}
 use Rattle.std.specs.Prelude.{All, IfSome}
 use Rattle.std.specs.List.{flat_map}
 use Rattle.clock_gate.specs.Trace.{IsLawfulTrace}
@@ -11,25 +11,23 @@ use Rattle.segment_layout.specs.Image.{image_of}
 use Rattle.status_machine.specs.declared.base.Base.{Base}
 use Rattle.status_machine.specs.declared.daemon.Daemon.{Daemon}
 use Rattle.status_machine.specs.Poll.{BaseFits}
-use Rattle.status_machine.specs.Incarnation.{base_at}
 use Rattle.status_machine.specs.Step.{ShowsPast}
 use Rattle.lawful_report.specs.declared.counts.Counts.{Counts}
 use Rattle.lawful_report.specs.declared.entry.Entry.{Entry}
 use Rattle.lawful_report.specs.declared.printed.Printed.{Printed}
 use Rattle.lawful_report.specs.declared.seen.Seen.{Seen}
-use Rattle.lawful_report.specs.Calls.{calls_of, seen_first}
-use Rattle.lawful_report.specs.Course.{Course, Life, course_by, course_start}
-use Rattle.lawful_report.specs.Lawful.{Due, Heading, Opening, Moving, Polling, Stopping, Answering, Finished, Standing, standing_start, Follow, Follows, text_of_lines, IsStuck, IsLawfulReport, IsFirstUnlawful}
+use Rattle.lawful_report.specs.Calls.{calls_of}
+use Rattle.lawful_report.specs.Course.{Life, course_by}
+use Rattle.lawful_report.specs.Lawful.{Due, Heading, Opening, Moving, Polling, Stopping, Answering, Finished, Standing, standing_start, Follow, Follows, text_of_lines, IsLawfulReport, IsFirstUnlawful}
 use Rattle.lawful_report.specs.Lines.{line_text}
 use Rattle.lawful_report.specs.Pages.{last_page}
-use Rattle.report_audit.specs.Auditor.{KnowsTrace, ShowsCourse, ShowsLife, EntryFits, KeepsSizes, CountsFit, SeenFits, DueFits, CanStep, StartIsSmall}
+use Rattle.report_audit.specs.Auditor.{ShowsLife, EntryFits, KeepsSizes, CountsFit, SeenFits, DueFits, CanStep, StartIsSmall}
 use Rattle.report_audit.specs.NextLine.{ShowsDue, ShowsStanding, NoLine, Taken}
 use Rattle.report_audit.specs.declared.auditor.Auditor.{Auditor}
 use Rattle.report_audit.specs.declared.due.Due.{Due as Kind}
 use Rattle.report_audit.specs.declared.due.Due.TheVariants as dues
 use Rattle.report_audit.specs.declared.known.Known.{Known}
-use Rattle.report_audit.specs.declared.progress.Progress.{Progress}
-use Rattle.report_audit.proofs.KeptSizes.{KeptCourse, KeptCounts, KeptSeen, KeptLife, KeptDue, Kept, KeptStart, kept_start}
+use Rattle.report_audit.proofs.KeptSizes.{KeptCourse, KeptSeen, KeptLife, KeptDue, Kept, KeptStart, kept_start}
 use Rattle.report_audit.proofs.KeptLines.{Limits, kept_follow}
 use Rattle.report_audit.proofs.TraceLimits.{clock_of_trace, rows_few, pages_few, calls_few}
 

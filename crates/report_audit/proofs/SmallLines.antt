@@ -1,20 +1,18 @@
 -- The numbers of a line that may stand have 64 bits.
-use Rattle.std.proofs.Common.{◌≡◌, ℕ, ℤ, suc, pos, ◌+◌, ◌/◌, ◌^◌, ◌<◌, ◌≤◌, Bool, true, false, List, [], ◌∷◌, length, Some, refl, sym, ap, subst, ◌∙◌, arith}
-use Rattle.std.specs.Prelude.{◌≤ℤ◌, ◌==◌, if◌then◌else◌}
+use Rattle.std.proofs.Common.{ℕ, ℤ, suc, pos, ◌+◌, ◌/◌, [], ◌∷◌, subst, arith}
+use Rattle.std.specs.Prelude.{◌≤ℤ◌, ◌==◌}
 use Rattle.std.proofs.lemmas.Int.{ints}
 use Rattle.clock_gate.specs.ClockRow.{row_at}
 use Rattle.clock_gate.specs.declared.trace.Trace.{Trace}
-use Rattle.generation_word.specs.Layout.{period_of}
 use Rattle.segment_layout.specs.declared.publication.Publication.{Publication}
 use Rattle.interval_now.specs.declared.answers.Answer.{Answer}
 use Rattle.interval_now.specs.declared.answers.Answer.TheVariants.{Time, Busy, NotInitialized, PageBusy, Causality as Early}
-use Rattle.lawful_report.specs.declared.call.Call.{Call}
 use Rattle.lawful_report.specs.declared.printed.Printed.{Printed}
 use Rattle.lawful_report.specs.declared.printed.Printed.TheVariants.{Header, Opened, Published, Skipped, Stopped, Moved, Answered, Total}
 use Rattle.lawful_report.specs.declared.seen.Seen.{Seen}
 use Rattle.lawful_report.specs.Calls.{MayAnswer}
 use Rattle.lawful_report.specs.Course.{Course}
-use Rattle.lawful_report.specs.Lawful.{Due, Heading, Opening, Moving, Polling, Stopping, Answering, Finished, Standing, seen_before, PublishesHere, FollowsAt, Follows}
+use Rattle.lawful_report.specs.Lawful.{Due, Heading, Opening, Moving, Polling, Stopping, Answering, Standing, seen_before, PublishesHere, FollowsAt}
 use Rattle.lawful_report.specs.Pages.{marker_at}
 use Rattle.report_audit.specs.Auditor.{EntryFits}
 use Rattle.report_audit.proofs.EarlyReads.{row_moments}

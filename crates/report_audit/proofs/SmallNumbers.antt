@@ -1,5 +1,5 @@
 -- The numbers of word 1 have 32 bits.
-use Rattle.std.proofs.Common.{◌≡◌, inl, inr, ℕ, ◌+◌, ◌*◌, ◌^◌, ◌<◌, ◌≤◌, arith, subst}
+use Rattle.std.proofs.Common.{◌≡◌, inl, inr, ℕ, ◌+◌, ◌*◌, ◌^◌, ◌<◌, arith, subst}
 use Rattle.generation_word.specs.declared.layout.Layout.{Layout}
 use Rattle.generation_word.specs.declared.layout.Layout.TheVariants.{Two, Three}
 use Rattle.generation_word.specs.Layout.{period_of}

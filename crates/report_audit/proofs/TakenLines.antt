@@ -1,5 +1,5 @@
 -- Lines that an auditor has taken, kind by kind.
-use Rattle.std.proofs.Common.{◌≡◌, ℕ, ◌+◌, ◌/◌, ◌≤◌, Bool, List, [], ◌∷◌, ◌++◌, Option, Some, refl, sym, ap, subst, ◌∙◌}
+use Rattle.std.proofs.Common.{◌≡◌, ℕ, ◌+◌, ◌/◌, ◌≤◌, List, [], ◌∷◌, ◌++◌, Some, refl}
 use Rattle.std.specs.Prelude.{slice_get, if◌then◌else◌}
 use Rattle.clock_gate.specs.declared.trace.PollRow.{PollRow}
 use Rattle.clock_gate.specs.declared.trace.Trace.{Trace}
@@ -11,7 +11,7 @@ use Rattle.lawful_report.specs.declared.counts.Counts.{Counts}
 use Rattle.lawful_report.specs.declared.printed.Printed.TheVariants.{Header, Opened, Published, Skipped, Stopped, Moved, Answered, Total}
 use Rattle.lawful_report.specs.declared.seen.Seen.{Seen}
 use Rattle.lawful_report.specs.Course.{Course, Life, start_found, next_generation, is_move, opened, moved, skipped, stopped, published, poll_at, IsPublished}
-use Rattle.lawful_report.specs.Lawful.{Due, Heading, Opening, Moving, Polling, Stopping, Answering, Finished, Standing, due_next, going_on, after_publication, one_publication, one_answer, counts_list, seen_before, DoesNotStop, PollsHere}
+use Rattle.lawful_report.specs.Lawful.{Heading, Opening, Moving, Polling, Stopping, Answering, Finished, due_next, going_on, after_publication, one_publication, one_answer, counts_list, seen_before, DoesNotStop, PollsHere}
 use Rattle.lawful_report.specs.Lines.{line_text}
 use Rattle.lawful_report.specs.Pages.{PageTriesFail, page_seen}
 use Rattle.report_audit.specs.FoundLines.{Answers}
@@ -20,7 +20,6 @@ use Rattle.report_audit.specs.declared.auditor.Auditor.{Auditor}
 use Rattle.report_audit.specs.declared.known.Known.{Known}
 
 module _ (trace : Trace) (known : Known) (course : Course) (counts : Counts) (text later : List ℕ) (auditor : Auditor) where
-
   pub taken_heading : Holds course counts auditor → ShowsDue known (due_next trace course) auditor.due → text ≡ line_text Header ++ later → Taken trace known (at course counts Heading) text auditor later
   taken_heading holds due begins = record { line = Header; after = going_on trace counts course; follows = refl; begins = begins; shows = record { holds = holds; due_is = due } }
 

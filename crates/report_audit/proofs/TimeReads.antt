@@ -1,6 +1,6 @@
 -- The numbers of an answer with an interval, and the point that it stands for.
-use Rattle.std.proofs.Common.{◌≡◌, ℕ, ◌+◌, ◌^◌, ◌<◌, ◌≤◌, List, ◌++◌, length, refl, sym, ap, subst, ◌∙◌, arith}
-use Rattle.std.specs.Prelude.{slice_index, slice_get, Option}
+use Rattle.std.proofs.Common.{◌≡◌, ℕ, ◌^◌, ◌<◌, ◌≤◌, List, ◌++◌, length, refl, sym, ap, ◌∙◌, arith}
+use Rattle.std.specs.Prelude.{slice_get, Option}
 use Rattle.clock_gate.specs.ClockRow.{row_at, reading_at}
 use Rattle.clock_gate.specs.declared.clock_row.ClockRow.{ClockRow}
 use Rattle.clock_gate.specs.declared.clock_row.Reading.{Reading}
@@ -21,7 +21,7 @@ use Rattle.lawful_report.specs.Lines.{answered_line, time_text, time_place}
 use Rattle.report_audit.specs.Auditor.{KnowsTrace, ShowsCourse}
 use Rattle.report_audit.specs.declared.known.Known.{Known}
 use Rattle.report_audit.specs.declared.progress.Progress.{Progress}
-use Rattle.report_audit.specs.FoundLines.{TimeFits, time_said, PlaceFits, KnowsTime, KnowsRun}
+use Rattle.report_audit.specs.FoundLines.{TimeFits, time_said, PlaceFits, KnowsRun}
 use Rattle.report_audit.specs.Numbers.{numbers_in}
 use Rattle.report_audit.proofs.LineNumbers.{ReadsTime, time_six}
 use Rattle.report_audit.proofs.SmallNumbers.{number_small}

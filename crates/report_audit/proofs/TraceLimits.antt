@@ -1,18 +1,16 @@
 -- The limits of a lawful trace that an audit rests on.
-use Rattle.std.proofs.Common.{◌≡◌, ℕ, zero, suc, Bool, true, false, ◌+◌, ◌*◌, ◌^◌, ◌<◌, ◌≤◌, List, [], ◌∷◌, ◌++◌, length, get_or, length-append, refl, sym, ap, subst, ◌∙◌, arith}
+use Rattle.std.proofs.Common.{◌≡◌, ℕ, zero, suc, Bool, true, false, ◌+◌, ◌*◌, ◌≤◌, List, [], ◌∷◌, length, get_or, length-append, refl, ap, arith}
 use Rattle.std.specs.Prelude.{map, filter, ◌==◌, nat_lt, if◌then◌else◌, All}
 use Rattle.std.specs.List.{range_with_len, flat_map}
-use Rattle.std.proofs.lemmas.List.Elements.{All-get_or, All-from_get_or, All-nil, All-cons, All-head, All-tail}
+use Rattle.std.proofs.lemmas.List.Elements.{All-get_or, All-from_get_or, All-head, All-tail}
 use Rattle.std.proofs.lemmas.Nat.{mul-le}
 use Rattle.clock_gate.proofs.Traces.{clock_few}
 use Rattle.clock_gate.specs.ClockRow.{IsClock, KeepsMoments, no_row}
 use Rattle.clock_gate.specs.Trace.{IsLawfulTrace, IsClockRow, IsCallRow, larger, largest_from}
-use Rattle.clock_gate.specs.declared.clock_row.ClockRow.{ClockRow}
 use Rattle.clock_gate.specs.declared.trace.CallRow.{CallRow}
 use Rattle.clock_gate.specs.declared.trace.HostRow.{HostRow}
 use Rattle.clock_gate.specs.declared.trace.HostRow.TheVariants.{Clock, Page, Disrupt}
 use Rattle.clock_gate.specs.declared.trace.Trace.{Trace}
-use Rattle.lawful_report.specs.declared.call.Call.{Call}
 use Rattle.lawful_report.specs.Calls.{calls_of, calls_of_client, numbered_from}
 use Rattle.lawful_report.specs.Pages.{last_page, row_markers}
 

@@ -1,5 +1,5 @@
 -- What an auditor knows of a trace, and the standing that it shows.
-use Rattle.std.specs.Prelude.{◌≡◌, ℕ, ◌^◌, ◌<◌, ◌≤◌, List, All, Option, Some, None, IfSome, is_some, slice_get}
+use Rattle.std.specs.Prelude.{◌≡◌, ℕ, ◌^◌, ◌<◌, ◌≤◌, All, Option, Some, None, IfSome, is_some, slice_get}
 use Rattle.clock_gate.specs.declared.trace.Trace.{Trace}
 use Rattle.segment_layout.specs.Record.{KeepsBounds}
 use Rattle.status_machine.specs.declared.daemon.Daemon.{Daemon}

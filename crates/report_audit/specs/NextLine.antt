@@ -2,10 +2,8 @@
 use Rattle.std.specs.Prelude.{◌≡◌, ◌≢◌, ℕ, ◌+◌, Bool, if◌then◌else◌, List, ◌++◌, drop, Option, Some, None}
 use Rattle.std.specs.Borrow.{Bor}
 use Rattle.clock_gate.specs.declared.trace.Trace.{Trace}
-use Rattle.lawful_report.specs.declared.call.Call.{Call}
 use Rattle.lawful_report.specs.declared.counts.Counts.{Counts}
 use Rattle.lawful_report.specs.declared.printed.Printed.{Printed}
-use Rattle.lawful_report.specs.declared.seen.Seen.{Seen}
 use Rattle.lawful_report.specs.Course.{Course, ended}
 use Rattle.lawful_report.specs.Lawful.{Due, Heading, Opening, Moving, Polling, Stopping, Answering, Finished, Standing, going_on, Follows}
 use Rattle.lawful_report.specs.Lines.{line_text, skipped_line}

@@ -86,10 +86,42 @@ fn counted_time(counts: Counts, status: ClockStatus) -> Counts
     let answers = counts.answers + 1;
     let times = counts.times + 1;
     match status {
-        ClockStatus::Unknown => Counts { publications: counts.publications, answers, times, unknown: counts.unknown + 1, synchronized: counts.synchronized, free_running: counts.free_running, disrupted: counts.disrupted },
-        ClockStatus::Synchronized => Counts { publications: counts.publications, answers, times, unknown: counts.unknown, synchronized: counts.synchronized + 1, free_running: counts.free_running, disrupted: counts.disrupted },
-        ClockStatus::FreeRunning => Counts { publications: counts.publications, answers, times, unknown: counts.unknown, synchronized: counts.synchronized, free_running: counts.free_running + 1, disrupted: counts.disrupted },
-        ClockStatus::Disrupted => Counts { publications: counts.publications, answers, times, unknown: counts.unknown, synchronized: counts.synchronized, free_running: counts.free_running, disrupted: counts.disrupted + 1 },
+        ClockStatus::Unknown => Counts {
+            publications: counts.publications,
+            answers,
+            times,
+            unknown: counts.unknown + 1,
+            synchronized: counts.synchronized,
+            free_running: counts.free_running,
+            disrupted: counts.disrupted,
+        },
+        ClockStatus::Synchronized => Counts {
+            publications: counts.publications,
+            answers,
+            times,
+            unknown: counts.unknown,
+            synchronized: counts.synchronized + 1,
+            free_running: counts.free_running,
+            disrupted: counts.disrupted,
+        },
+        ClockStatus::FreeRunning => Counts {
+            publications: counts.publications,
+            answers,
+            times,
+            unknown: counts.unknown,
+            synchronized: counts.synchronized,
+            free_running: counts.free_running + 1,
+            disrupted: counts.disrupted,
+        },
+        ClockStatus::Disrupted => Counts {
+            publications: counts.publications,
+            answers,
+            times,
+            unknown: counts.unknown,
+            synchronized: counts.synchronized,
+            free_running: counts.free_running,
+            disrupted: counts.disrupted + 1,
+        },
     }
 }
 
@@ -99,7 +131,10 @@ fn counted(counts: Counts, answer: &Answer) -> Counts
 {
     match answer {
         Answer::Time(timed) => counted_time(counts, timed.interval.status),
-        Answer::Busy { .. } | Answer::NotInitialized | Answer::PageBusy { .. } | Answer::Causality(_) => Counts {
+        Answer::Busy { .. }
+        | Answer::NotInitialized
+        | Answer::PageBusy { .. }
+        | Answer::Causality(_) => Counts {
             publications: counts.publications,
             answers: counts.answers + 1,
             times: counts.times,

@@ -122,10 +122,7 @@ fn before_of(image: &Result<Start, ImageFault>) -> u64
     }
 }
 
-fn entries_of(
-    alloc: Global,
-    image: &Result<Start, ImageFault>,
-) -> Result<Vec<Entry>, AllocError>
+fn entries_of(alloc: Global, image: &Result<Start, ImageFault>) -> Result<Vec<Entry>, AllocError>
     ensures { IfOk result (λ entries. entries.items ≡ (course_by image.now).entries) }
 {
     let mut entries = Vec::new(alloc);

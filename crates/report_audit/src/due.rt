@@ -12,10 +12,7 @@ pub enum Due {
     /// The stop after all stores of a poll.
     Stopping,
     /// The answer to the call at this place, by what the client of the call before has seen; past the last call the counts.
-    Answering {
-        seen: Seen,
-        place: usize,
-    },
+    Answering { seen: Seen, place: usize },
     /// None.
     Finished,
 }

@@ -76,7 +76,8 @@ pub fn busy_answer<'a>(
         return Ok(None);
     };
     let period = trace.layout.period();
-    let Some(point) = busy_point(period, u64::from(first), u64::from(last), seen.point, until) else {
+    let Some(point) = busy_point(period, u64::from(first), u64::from(last), seen.point, until)
+    else {
         return Ok(None);
     };
     let tries = call.tries;
@@ -113,11 +114,7 @@ pub fn page_busy_answer<'a>(
         return Ok(None);
     };
     match after_answer(alloc, text, call, 0, Answer::PageBusy { first, last })? {
-        Some(later) => Ok(Some((
-            seen_on(seen, page),
-            Answer::PageBusy { first, last },
-            later,
-        ))),
+        Some(later) => Ok(Some((seen_on(seen, page), Answer::PageBusy { first, last }, later))),
         None => Ok(None),
     }
 }

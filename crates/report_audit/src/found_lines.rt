@@ -5,9 +5,9 @@ ghost use Rattle.report_audit.specs.KnownPages.{KnowsPages};
 ghost use Rattle.report_audit.specs.FoundLines.{SkipFound};
 
 use crate::pages::{Pages, page_after};
-use lawful_report::Printed;
 use crate::reading::{after_line, six_numbers};
 use clock_gate::Memory;
+use lawful_report::Printed;
 use std::alloc::Global;
 
 /// The line of a poll that was skipped, where page `page` was seen before: the page that it tells, and what follows it.

@@ -23,7 +23,16 @@ fn zero_stamp() -> Stamp
 fn no_record() -> Record
     ensures { result ≡ record { as_of = pos 0; void_after = pos 0; bound = pos 0; marker = 0; drift = 0; status = Unknown; support = false } }
 {
-    Record::new(zero_stamp(), zero_stamp(), 0, 0, 0, ClockStatus::Unknown, false).unwrap()
+    Record::new(
+        zero_stamp(),
+        zero_stamp(),
+        0,
+        0,
+        0,
+        ClockStatus::Unknown,
+        false,
+    )
+    .unwrap()
 }
 
 fn no_entry() -> Entry

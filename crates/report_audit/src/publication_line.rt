@@ -81,7 +81,14 @@ pub fn publication_at<'a>(
         return Ok(None);
     };
     let clock = trace.clock.as_slice();
-    if !rows_fit(progress, clock.len(), known.pages.most, asked, page, replied) {
+    if !rows_fit(
+        progress,
+        clock.len(),
+        known.pages.most,
+        asked,
+        page,
+        replied,
+    ) {
         return Ok(None);
     }
     let poll = progress.polled + 1;

@@ -4,9 +4,8 @@ ghost use Rattle.lawful_report.specs.Lines.{line_text};
 ghost use Rattle.report_audit.specs.Numbers.{from_digit, next_number, numbers_in};
 
 use crate::leading::leading_number;
-use lawful_report::print_line;
-use lawful_report::Printed;
 use clock_gate::Memory;
+use lawful_report::{Printed, print_line};
 use std::alloc::Global;
 
 /// What follows this line, where the text begins with it.

@@ -8,12 +8,11 @@ ghost use Rattle.lawful_report.specs.Points.{HasNumber};
 ghost use Rattle.lawful_report.specs.Course.{Course};
 ghost use Rattle.report_audit.specs.FoundLines.{KnowsTime, TimeFitsOrNot, KnowsRun, LeastTime};
 
-use lawful_report::Entry;
 use crate::points::least_point;
-use lawful_report::Printed;
 use crate::reading::after_line;
 use clock_gate::{Memory, Reading};
 use interval_now::{Answer, Interval, Timed, interval};
+use lawful_report::{Entry, Printed};
 use std::alloc::Global;
 
 /// The place in a report of an answer Time: its client and call, and what it names.

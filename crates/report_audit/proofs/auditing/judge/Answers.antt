@@ -1,4 +1,4 @@
-use Rattle.std.proofs.Common.{◌+◌, arith}
+use Rattle.std.proofs.Common.{arith}
 use Rattle.report_audit.proofs.Reached.{sizes_there, reached_first, reached_next}
 use Rattle.report_audit.proofs.auditing.judge.Goals as goal
 

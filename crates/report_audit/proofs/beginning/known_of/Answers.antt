@@ -1,8 +1,7 @@
-use Rattle.std.proofs.Common.{◌≡◌, ℕ, ◌<◌, ◌≤◌, ◌^◌, List, Result, length, rules, refl, sym, ap, subst, ◌∙◌, arith}
+use Rattle.std.proofs.Common.{◌≡◌, ℕ, List, Result, length, rules, sym, ap, ◌∙◌, arith}
 use Rattle.clock_gate.specs.declared.trace.HostRow.{HostRow}
 use Rattle.segment_layout.specs.declared.image_fault.ImageFault.{ImageFault}
 use Rattle.segment_layout.specs.declared.start.Start.{Start}
-use Rattle.lawful_report.specs.declared.seen.Seen.{Seen}
 use Rattle.lawful_report.specs.Calls.{seen_first}
 use Rattle.lawful_report.specs.Course.{course_by}
 use Rattle.lawful_report.specs.Pages.{row_markers, last_page}

@@ -1,6 +1,6 @@
-use Rattle.std.proofs.Common.{◌≡◌, ℕ, pos, ◌+◌, ◌*◌, ◌≤◌, Some, sym, ◌∙◌, arith}
+use Rattle.std.proofs.Common.{◌≡◌, pos, Some, sym, ◌∙◌, arith}
 use Rattle.std.proofs.lemmas.Bool.{false≢true}
-use Rattle.lawful_report.specs.Course.{Course, entry_at}
+use Rattle.lawful_report.specs.Course.{entry_at}
 use Rattle.report_audit.proofs.EntryPoints.{at_position, next_position, found_position}
 use Rattle.report_audit.proofs.early_answer.as_of_point.Goals as goal
 

@@ -1,22 +1,16 @@
-use Rattle.std.proofs.Common.{◌≡◌, ℕ, ℤ, pos, ◌+◌, ◌<◌, ◌≤◌, ◌/◌, List, ◌++◌, length, slice_index_or, arith, rules, ap, sym, subst, ◌∙◌, inl, inr}
-use Rattle.std.specs.Prelude.{All, ◌<ℤ◌}
-use Rattle.std.proofs.lemmas.Int.{ints}
+use Rattle.std.proofs.Common.{◌≡◌, ℕ, pos, ◌≤◌, List, ◌++◌, length, slice_index_or, arith, rules, ap, sym, subst, ◌∙◌}
+use Rattle.std.specs.Prelude.{All}
 use Rattle.clock_gate.specs.declared.clock_row.ClockRow.{ClockRow}
-use Rattle.clock_gate.specs.declared.trace.Trace.{Trace}
 use Rattle.interval_now.specs.declared.answers.Answer.TheVariants.{Causality as Early}
 use Rattle.interval_now.specs.declared.answers.Causality.{Causality}
-use Rattle.lawful_report.specs.declared.call.Call.{Call}
 use Rattle.lawful_report.specs.declared.entry.Entry.{Entry}
-use Rattle.lawful_report.specs.declared.seen.Seen.{Seen}
-use Rattle.lawful_report.specs.Course.{Course, entry_at}
-use Rattle.lawful_report.specs.Calls.{IsEarly, HasAsOf, HasMono}
+use Rattle.lawful_report.specs.Calls.{HasAsOf}
 use Rattle.lawful_report.specs.Points.{IsLeast}
 use Rattle.lawful_report.specs.Lines.{answered_line}
-use Rattle.report_audit.specs.Auditor.{EntryFits, ShowsCourse}
-use Rattle.report_audit.specs.FoundLines.{AsOfFound, HasMonoAt}
-use Rattle.report_audit.specs.Leasts.{NoneHas, IsLeastOrNone}
+use Rattle.report_audit.specs.Auditor.{EntryFits}
+use Rattle.report_audit.specs.FoundLines.{HasMonoAt}
 use Rattle.report_audit.proofs.AnswerKinds.{no_early}
-use Rattle.report_audit.proofs.EarlyReads.{EarlyReads, early_reads}
+use Rattle.report_audit.proofs.EarlyReads.{early_reads}
 use Rattle.report_audit.proofs.EarlySearch.{same_least, row_of_early, early_found, same_causality, RowFound}
 use Rattle.report_audit.proofs.early_answer.early_answer.Goals as goal
 

@@ -1,11 +1,10 @@
-use Rattle.std.proofs.Common.{◌≡◌, ◌<◌, ◌^◌, ℕ, List, ◌++◌, slice_index_or, arith, rules, ap, sym, subst, ◌∙◌}
+use Rattle.std.proofs.Common.{◌≡◌, ◌<◌, ◌^◌, ℕ, List, ◌++◌, slice_index_or, arith, rules, ap, sym, ◌∙◌}
 use Rattle.clock_gate.specs.declared.trace.Trace.{Trace}
-use Rattle.generation_word.specs.Layout.{period_of}
 use Rattle.interval_now.specs.declared.answers.Answer.TheVariants.{Busy}
 use Rattle.lawful_report.specs.declared.call.Call.{Call}
 use Rattle.lawful_report.specs.declared.seen.Seen.{Seen}
 use Rattle.lawful_report.specs.Course.{Course}
-use Rattle.lawful_report.specs.Calls.{IsBusy, FailsAt}
+use Rattle.lawful_report.specs.Calls.{IsBusy}
 use Rattle.lawful_report.specs.Lines.{answered_line}
 use Rattle.report_audit.specs.Numbers.{numbers_in}
 use Rattle.report_audit.proofs.LineNumbers.{busy_six}

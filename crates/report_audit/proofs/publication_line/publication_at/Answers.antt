@@ -1,11 +1,8 @@
-use Rattle.std.proofs.Common.{◌≡◌, ℕ, ◌+◌, ◌/◌, ◌<◌, ◌^◌, ◌≤◌, List, ◌++◌, length, slice_index_or, Option, arith, rules, refl, ap, sym, subst, ◌∙◌}
-use Rattle.std.specs.Prelude.{is_some}
+use Rattle.std.proofs.Common.{ℕ, ◌+◌, ◌/◌, List, ◌++◌, length, arith, rules, refl, ap, sym, subst, ◌∙◌}
 use Rattle.clock_gate.specs.declared.clock_row.ClockRow.{ClockRow}
-use Rattle.lawful_report.specs.Lines.{published_line}
-use Rattle.lawful_report.specs.Pages.{marker_at}
 use Rattle.lawful_report.specs.declared.entry.Entry.{Entry}
 use Rattle.report_audit.specs.FoundLines.{RowsFit, Polled, Publishes}
-use Rattle.report_audit.proofs.PublicationReads.{publication_reads, one_publication, published_found, made, marker_there}
+use Rattle.report_audit.proofs.PublicationReads.{publication_reads, one_publication, published_found}
 use Rattle.report_audit.proofs.publication_line.publication_at.Goals as goal
 
 pub returns-in_default : goal.returns-in_default
@@ -33,8 +30,8 @@ returns-in-Some-2 c course life row shows past heard =
     let place : RowsFit c.args.progress.now.row c.args.progress.now.page (length c.as_slice-clock.result.now) c.args.known.now.pages.most c.in-Some.asked c.in-Some.page c.in-Some.replied = search rules in
     subst (λ (e : Entry). Publishes c.args.trace.now course life row c.args.text.now e c.poll_at-rec.new.daemon c.in-Some-2.later.now) (sym c.entry_told-entry.ensures)
     (published_found c.args.trace.now course life row c.args.progress.now c.poll_at-rec.new.daemon (length c.as_slice-clock.result.now) c.args.known.now.pages.most (c.args.progress.now.point / 2 + 1) c.in-Some.page (c.args.progress.now.polled + 1) c.generation.result c.in-Some.asked c.in-Some.replied c.poll_at-rec.result.1 c.poll_at-rec.result.0 c.args.text.now c.in-Some-2.later.now
-        shows (ap (λ (rows : List ClockRow). length rows) (sym c.as_slice-clock.ensures)) c.requires.knows.pages.most_is place polled c.poll_at-rec.ensures.base refl refl c.generation.ensures.value
-        (rw c.in-Some-2.is at c.in_ok-later.ensures.found))
+    shows (ap (λ (rows : List ClockRow). length rows) (sym c.as_slice-clock.ensures)) c.requires.knows.pages.most_is place polled c.poll_at-rec.ensures.base refl refl c.generation.ensures.value
+    (rw c.in-Some-2.is at c.in_ok-later.ensures.found))
 
 pub returns-in-None : goal.returns-in-None
 returns-in-None c course life row shows past heard position page p later is begins =

@@ -1,9 +1,6 @@
-use Rattle.std.proofs.Common.{◌≡◌, ℕ, ◌<◌, ◌^◌, ◌≤◌, List, ◌++◌, length, slice_index_or, Option, arith, rules, refl, ap, sym, subst, ◌∙◌}
-use Rattle.clock_gate.specs.ClockRow.{row_at}
+use Rattle.std.proofs.Common.{◌≡◌, ℕ, ◌≤◌, List, length, arith, rules, refl, ap, sym, subst, ◌∙◌}
 use Rattle.clock_gate.specs.declared.clock_row.ClockRow.{ClockRow}
 use Rattle.clock_gate.specs.declared.clock_row.Reading.{Reading}
-use Rattle.interval_now.specs.declared.answers.Answer.TheVariants.{Time}
-use Rattle.lawful_report.specs.Pages.{marker_at}
 use Rattle.report_audit.specs.FoundLines.{PlaceFits, KnowsRun, TimeFits}
 use Rattle.report_audit.proofs.AnswerKinds.{no_time}
 use Rattle.report_audit.proofs.TimeReads.{time_reads, time_found, known_run}

@@ -1,12 +1,9 @@
-use Rattle.std.proofs.Common.{◌≡◌, ℕ, ◌+◌, ◌*◌, ◌/◌, ◌≤◌, Bool, List, [], ◌∷◌, ◌++◌, Option, Some, None, refl, rules, sym, ap, subst, ◌∙◌, arith}
+use Rattle.std.proofs.Common.{◌≡◌, ℕ, ◌+◌, ◌≤◌, List, [], Option, Some, None, refl, sym, ap, subst, ◌∙◌, arith}
 use Rattle.std.specs.Prelude.{slice_get}
 use Rattle.lawful_report.specs.declared.counts.Counts.{Counts}
-use Rattle.lawful_report.specs.declared.entry.Entry.{Entry}
-use Rattle.report_audit.specs.Auditor.{ShowsCourse}
-use Rattle.std.proofs.Common.{drop, suc, Bor, length, ◌^◌, ◌<◌}
+use Rattle.std.proofs.Common.{drop, suc, Bor, length}
 use Rattle.std.proofs.lemmas.Option.{slice_get_within}
 use Rattle.clock_gate.specs.declared.trace.Trace.{Trace}
-use Rattle.interval_now.specs.declared.answers.Answer.{Answer}
 use Rattle.lawful_report.specs.declared.call.Call.{Call}
 use Rattle.lawful_report.specs.declared.seen.Seen.{Seen}
 use Rattle.lawful_report.specs.Course.{Course}
@@ -58,5 +55,5 @@ returns-in-Ok-Some c course counts holds =
     let next : suc c.args.place ≡ c.args.place + 1 = omega arith in
     subst (λ (calls : List Call). Taken c.args.trace.now c.args.known.now (at course counts (Answering c.args.seen calls)) c.args.text.now auditor c.in-Ok-Some.later.now) (sym (dropped c.args.known.now.calls c.args.place c.in-Some.call here))
     (taken_answer c.args.trace.now c.args.known.now course counts c.args.text.now c.in-Ok-Some.later.now auditor c.args.seen c.in-Some.call (drop (suc c.args.place) c.args.known.now.calls) c.in-Ok-Some.after c.in-Ok-Some.answer found
-        (record { course_is = holds.course_is; counts_are = ap (one_answer c.in-Ok-Some.answer) holds.counts_are ∙ sym c.counted-self.ensures })
-        (refl, ap (λ (n : ℕ). drop n c.args.known.now.calls) next))
+    (record { course_is = holds.course_is; counts_are = ap (one_answer c.in-Ok-Some.answer) holds.counts_are ∙ sym c.counted-self.ensures })
+    (refl, ap (λ (n : ℕ). drop n c.args.known.now.calls) next))

@@ -1,8 +1,4 @@
-use Rattle.std.proofs.Common.{◌≡◌, ℕ, ◌+◌, ◌*◌, ◌/◌, ◌≤◌, Bool, List, [], ◌∷◌, ◌++◌, Option, Some, None, refl, rules, sym, ap, subst, ◌∙◌, arith}
-use Rattle.std.specs.Prelude.{slice_get}
-use Rattle.lawful_report.specs.declared.counts.Counts.{Counts}
-use Rattle.lawful_report.specs.declared.entry.Entry.{Entry}
-use Rattle.report_audit.specs.Auditor.{ShowsCourse}
+use Rattle.std.proofs.Common.{sym, ap}
 use Rattle.lawful_report.specs.Lawful.{counts_list}
 use Rattle.report_audit.proofs.AuditorSteps.{none_of}
 use Rattle.report_audit.proofs.Candidates.{no_counting}

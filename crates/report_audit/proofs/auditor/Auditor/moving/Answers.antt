@@ -1,11 +1,8 @@
-use Rattle.std.proofs.Common.{◌≡◌, ℕ, ◌+◌, ◌*◌, ◌/◌, ◌≤◌, Bool, List, [], ◌∷◌, ◌++◌, Option, Some, None, refl, rules, sym, ap, subst, ◌∙◌, arith}
-use Rattle.std.specs.Prelude.{slice_get}
-use Rattle.lawful_report.specs.declared.counts.Counts.{Counts}
+use Rattle.std.proofs.Common.{◌≡◌, ℕ, ◌+◌, ◌*◌, ◌/◌, sym, ap, ◌∙◌}
 use Rattle.lawful_report.specs.declared.entry.Entry.{Entry}
-use Rattle.report_audit.specs.Auditor.{ShowsCourse}
 use Rattle.generation_word.specs.Layout.{period_of}
 use Rattle.generation_word.specs.Numbering.{generation_at}
-use Rattle.lawful_report.specs.Course.{Course, first_entry, last_entry}
+use Rattle.lawful_report.specs.Course.{first_entry, last_entry}
 use Rattle.report_audit.proofs.AuditorSteps.{pushed_entries}
 use Rattle.report_audit.proofs.TakenLines.{taken_moving}
 use Rattle.report_audit.proofs.auditor.Auditor.moving.Goals as goal

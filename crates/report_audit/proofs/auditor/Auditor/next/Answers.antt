@@ -1,4 +1,4 @@
-use Rattle.std.proofs.Common.{◌≡◌, ℕ, List, drop, Option, Bor}
+use Rattle.std.proofs.Common.{ℕ, List, drop, Option, Bor}
 use Rattle.lawful_report.specs.Lawful.{Heading, Opening, Moving, Polling, Stopping, Answering}
 use Rattle.lawful_report.specs.Course.{Course}
 use Rattle.lawful_report.specs.declared.counts.Counts.{Counts}

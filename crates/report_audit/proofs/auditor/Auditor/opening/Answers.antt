@@ -1,10 +1,7 @@
-use Rattle.std.proofs.Common.{◌≡◌, ℕ, ◌+◌, ◌*◌, ◌/◌, ◌≤◌, Bool, List, [], ◌∷◌, ◌++◌, Option, Some, None, refl, rules, sym, ap, subst, ◌∙◌, arith}
-use Rattle.std.specs.Prelude.{slice_get, slice_index, is_some}
-use Rattle.lawful_report.specs.declared.counts.Counts.{Counts}
+use Rattle.std.proofs.Common.{◌≡◌, ℕ, ◌+◌, rules, sym, ap, ◌∙◌}
+use Rattle.std.specs.Prelude.{slice_index, is_some}
 use Rattle.lawful_report.specs.declared.entry.Entry.{Entry}
-use Rattle.report_audit.specs.Auditor.{ShowsCourse}
-use Rattle.segment_layout.specs.declared.start.Start.{Start}
-use Rattle.lawful_report.specs.Course.{Course, start_found, last_entry, is_move}
+use Rattle.lawful_report.specs.Course.{start_found, last_entry, is_move}
 use Rattle.report_audit.proofs.AuditorSteps.{found_alike, resumed, move_alike, due_moving}
 use Rattle.report_audit.proofs.TakenLines.{taken_opening}
 use Rattle.report_audit.proofs.auditor.Auditor.opening.Goals as goal

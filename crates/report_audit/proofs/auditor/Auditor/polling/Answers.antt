@@ -1,9 +1,6 @@
-use Rattle.std.proofs.Common.{◌≡◌, ℕ, ◌+◌, ◌*◌, ◌/◌, ◌≤◌, Bool, List, [], ◌∷◌, ◌++◌, Option, Some, None, refl, rules, sym, ap, subst, ◌∙◌, arith}
-use Rattle.std.specs.Prelude.{slice_get}
-use Rattle.lawful_report.specs.declared.counts.Counts.{Counts}
-use Rattle.lawful_report.specs.declared.entry.Entry.{Entry}
+use Rattle.std.proofs.Common.{ℕ, ◌+◌, sym, ap, subst}
 use Rattle.report_audit.specs.Auditor.{ShowsCourse}
-use Rattle.lawful_report.specs.Course.{Course, skipped}
+use Rattle.lawful_report.specs.Course.{skipped}
 use Rattle.lawful_report.specs.Pages.{PageTriesFail, page_seen}
 use Rattle.report_audit.specs.FoundLines.{SkipsTo}
 use Rattle.report_audit.proofs.TakenLines.{taken_skip}

@@ -1,9 +1,7 @@
-use Rattle.std.proofs.Common.{◌≡◌, ℕ, ◌+◌, ◌*◌, ◌/◌, ◌≤◌, Bool, List, [], ◌∷◌, ◌++◌, Option, Some, None, refl, rules, sym, ap, subst, ◌∙◌, arith}
-use Rattle.std.specs.Prelude.{slice_get}
-use Rattle.lawful_report.specs.declared.counts.Counts.{Counts}
+use Rattle.std.proofs.Common.{ℕ, ◌+◌, ◌*◌, ◌/◌, sym, ap}
 use Rattle.lawful_report.specs.declared.entry.Entry.{Entry}
 use Rattle.report_audit.specs.Auditor.{ShowsCourse}
-use Rattle.lawful_report.specs.Course.{Course, entry_of, published}
+use Rattle.lawful_report.specs.Course.{entry_of, published}
 use Rattle.lawful_report.specs.Lawful.{one_publication}
 use Rattle.report_audit.proofs.AuditorSteps.{pushed_entries}
 use Rattle.report_audit.proofs.auditor.Auditor.publish.Goals as goal

@@ -1,12 +1,8 @@
-use Rattle.std.proofs.Common.{◌≡◌, ℕ, ◌+◌, ◌*◌, ◌/◌, ◌≤◌, Bool, List, [], ◌∷◌, ◌++◌, Option, Some, None, refl, rules, sym, ap, subst, ◌∙◌, arith}
+use Rattle.std.proofs.Common.{◌≡◌, ℕ, Bool, List, Some, sym, ap, subst, ◌∙◌}
 use Rattle.std.specs.Prelude.{slice_get}
-use Rattle.lawful_report.specs.declared.counts.Counts.{Counts}
-use Rattle.lawful_report.specs.declared.entry.Entry.{Entry}
-use Rattle.report_audit.specs.Auditor.{ShowsCourse}
 use Rattle.status_machine.specs.Poll.{heard_of}
-use Rattle.status_machine.specs.declared.heard.Heard.{Heard}
-use Rattle.lawful_report.specs.Course.{Course, published, poll_at}
-use Rattle.lawful_report.specs.Lawful.{one_publication, has_stop}
+use Rattle.lawful_report.specs.Course.{published, poll_at}
+use Rattle.lawful_report.specs.Lawful.{one_publication}
 use Rattle.report_audit.specs.FoundLines.{Publishes}
 use Rattle.report_audit.specs.NextLine.{ShowsStanding, published_by}
 use Rattle.report_audit.proofs.AuditorSteps.{LifeThere, life_there}

@@ -1,10 +1,7 @@
-use Rattle.std.proofs.Common.{◌≡◌, ℕ, ◌+◌, ◌*◌, ◌/◌, ◌≤◌, Bool, List, [], ◌∷◌, ◌++◌, Option, Some, None, refl, rules, sym, ap, subst, ◌∙◌, arith}
+use Rattle.std.proofs.Common.{◌≡◌, ℕ, ◌+◌, Some, sym, ap, subst, ◌∙◌}
 use Rattle.std.specs.Prelude.{slice_get}
-use Rattle.lawful_report.specs.declared.counts.Counts.{Counts}
-use Rattle.lawful_report.specs.declared.entry.Entry.{Entry}
 use Rattle.report_audit.specs.Auditor.{ShowsCourse}
-use Rattle.clock_gate.specs.declared.trace.PollRow.{PollRow}
-use Rattle.lawful_report.specs.Course.{Course, stopped, point_stopped}
+use Rattle.lawful_report.specs.Course.{stopped, point_stopped}
 use Rattle.report_audit.proofs.TakenLines.{taken_stop}
 use Rattle.report_audit.proofs.auditor.Auditor.stopped.Goals as goal
 

@@ -1,8 +1,4 @@
-use Rattle.std.proofs.Common.{◌≡◌, ℕ, ◌+◌, ◌*◌, ◌/◌, ◌≤◌, Bool, List, [], ◌∷◌, ◌++◌, Option, Some, None, refl, rules, sym, ap, subst, ◌∙◌, arith}
-use Rattle.std.specs.Prelude.{slice_get}
-use Rattle.lawful_report.specs.declared.counts.Counts.{Counts}
-use Rattle.lawful_report.specs.declared.entry.Entry.{Entry}
-use Rattle.report_audit.specs.Auditor.{ShowsCourse}
+use Rattle.std.proofs.Common.{sym}
 use Rattle.report_audit.proofs.TakenLines.{taken_stopping}
 use Rattle.report_audit.proofs.auditor.Auditor.stopping.Goals as goal
 
