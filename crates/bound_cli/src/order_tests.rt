@@ -22,10 +22,24 @@ fn served(alloc: Global, given: &[&str], text: &str) -> Result<(Status, Vec<u8>)
     Ok((status, sink.bytes().to_vec(alloc)?))
 }
 
+// Over a text with leases of this length nothing is refused, and this is written.
+fn tells(
+    rt: &HostRuntime,
+    alloc: Global,
+    length: &str,
+    text: &str,
+    told: &str,
+) -> Result<(), Fail> {
+    let (status, written) = served(alloc, &["order", length], text)?;
+    assert_eq!(rt; status, Status::Ok);
+    assert_eq!(rt; written.as_slice(), told.as_bytes());
+    Ok(())
+}
+
 #[test]
-fn stamps_and_leases_of_a_trace(rt: HostRuntime) -> Result<(), Fail> {
+fn the_first_client_holds_the_lease(rt: HostRuntime) -> Result<(), Fail> {
     let alloc = rt.alloc();
-    let two_clients = format!(in alloc;
+    let text = format!(in alloc;
         "clockbound-trace,1
 clock,1000000000,1700000000000000000,1700000000000000000
 poll,{REPLY}
@@ -36,26 +50,7 @@ call,2
 call,1
 "
     )?;
-    let before_the_poll = format!(in alloc;
-        "clockbound-trace,1\nclock,1000000000,1700000000000000000\ncall,1\npoll,{REPLY}\n"
-    )?;
-    // The first earliest is 999,755,858. 900,000 ns later the half width has grown by 45 ns, and earliest is 1,000,705,813.
-    let untold = format!(in alloc;
-        "clockbound-trace,1
-clock,1000000000,1000000000
-poll,{REPLY}
-call,1
-call,1
-call,64
-clock,1000900000,1000950000
-call,1
-"
-    )?;
-    for (length, trace, told) in [
-        (
-            "1000000",
-            two_clients.as_str(),
-            "order-report,1
+    let told = "order-report,1
 stamp,1,1,1700000000000244142
 grant,1,1,1700000000001244142
 done,1,2,1700000000000244142
@@ -66,17 +61,36 @@ stamp,1,3,1700000001000294142
 act,1,3
 total,3,1,2,1
 premises,held
-",
-        ),
-        (
-            "0",
-            before_the_poll.as_str(),
-            "order-report,1\npass,1,1\ntotal,0,0,0,0\npremises,held\n",
-        ),
-        (
-            "00000000000000000000",
-            untold.as_str(),
-            "order-report,1
+";
+    tells(&rt, alloc, "1000000", text.as_str(), told)
+}
+
+#[test]
+fn an_answer_without_an_interval_passes(rt: HostRuntime) -> Result<(), Fail> {
+    let alloc = rt.alloc();
+    let text = format!(in alloc;
+        "clockbound-trace,1\nclock,1000000000,1700000000000000000\ncall,1\npoll,{REPLY}\n"
+    )?;
+    let told = "order-report,1\npass,1,1\ntotal,0,0,0,0\npremises,held\n";
+    tells(&rt, alloc, "0", text.as_str(), told)
+}
+
+// The first earliest is 999,755,858. 900,000 ns later the half width has grown by 45 ns, and earliest is 1,000,705,813.
+#[test]
+fn leases_without_length_end_at_their_latest(rt: HostRuntime) -> Result<(), Fail> {
+    let alloc = rt.alloc();
+    let text = format!(in alloc;
+        "clockbound-trace,1
+clock,1000000000,1000000000
+poll,{REPLY}
+call,1
+call,1
+call,64
+clock,1000900000,1000950000
+call,1
+"
+    )?;
+    let told = "order-report,1
 stamp,1,1,1000244142
 grant,1,1,1000244142
 hold,1,2
@@ -87,14 +101,8 @@ done,1,3,1000244142
 grant,1,3,1001194187
 total,2,1,2,0
 premises,failed,1,1,untold,1
-",
-        ),
-    ] {
-        let (status, written) = served(alloc, &["order", length], trace)?;
-        assert_eq!(rt; status, Status::Ok);
-        assert_eq!(rt; written.as_slice(), told.as_bytes());
-    }
-    Ok(())
+";
+    tells(&rt, alloc, "00000000000000000000", text.as_str(), told)
 }
 
 #[test]

@@ -4,6 +4,7 @@ ghost use Rattle.clock_gate.specs.ClockRow.{IsClock};
 ghost use Rattle.clock_gate.specs.declared.limits.TheConstants.{MOST_HOST_ROWS};
 ghost use Rattle.clock_gate.specs.declared.trace.PollRow.{PollRow};
 ghost use Rattle.lawful_report.specs.Course.{Course, Life};
+ghost use Rattle.lawful_report.specs.declared.printed.Printed.TheVariants.{Published};
 ghost use Rattle.status_machine.specs.Poll.{heard_of};
 ghost use Rattle.status_machine.specs.Step.{ShowsPast};
 ghost use Rattle.report_audit.specs.Auditor.{KnowsTrace, ShowsCourse, CanStep};
@@ -57,6 +58,16 @@ fn entry_told(publication: &Publication, page: u32) -> Entry
     }
 }
 
+fn line_told(position: u64, page: u32, publication: Publication) -> Printed
+    ensures { result ≡ Published position page publication }
+{
+    Printed::Published {
+        position,
+        page,
+        publication,
+    }
+}
+
 /// The publication of the poll that is next, by this daemon and this reply: the entry that it gives, the daemon after it, and what
 /// follows its line. `None` exactly where no publication of this poll begins the text.
 pub fn publication_at<'a>(
@@ -81,14 +92,8 @@ pub fn publication_at<'a>(
         return Ok(None);
     };
     let clock = trace.clock.as_slice();
-    if !rows_fit(
-        progress,
-        clock.len(),
-        known.pages.most,
-        asked,
-        page,
-        replied,
-    ) {
+    let rows = clock.len();
+    if !rows_fit(progress, rows, known.pages.most, asked, page, replied) {
         return Ok(None);
     }
     let poll = progress.polled + 1;
@@ -106,11 +111,7 @@ pub fn publication_at<'a>(
         rec,
     };
     let entry = entry_told(&publication, page);
-    let line = Printed::Published {
-        position,
-        page,
-        publication,
-    };
+    let line = line_told(position, page, publication);
     match after_line(alloc, text, &line)? {
         Some(later) => Ok(Some((entry, daemon, later))),
         None => Ok(None),

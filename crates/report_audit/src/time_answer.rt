@@ -4,14 +4,14 @@ ghost use Rattle.clock_gate.specs.ClockRow.{IsClock};
 ghost use Rattle.clock_gate.specs.declared.limits.TheConstants.{MOST_HOST_ROWS};
 ghost use Rattle.lawful_report.specs.Course.{Course};
 ghost use Rattle.report_audit.specs.Auditor.{KnowsTrace, ShowsCourse};
-ghost use Rattle.report_audit.specs.FoundLines.{AnswerFound, IsTimeAnswer, PlaceFits};
+ghost use Rattle.report_audit.specs.FoundLines.{AnswerFound, IsTimeAnswer, LeastTime, PlaceFits};
 
 use crate::known::Known;
 use crate::progress::Progress;
 use crate::reading::three_at;
 use crate::time_line::{TimePlace, time_point};
 use clock_gate::{Memory, Trace, reading};
-use interval_now::{Answer, Timed};
+use interval_now::{Answer, Interval, Timed};
 use lawful_report::{Call, Seen};
 use std::alloc::Global;
 
@@ -32,6 +32,41 @@ fn place_fits(seen: Seen, rows: usize, last: u32, generation: u32, row: u32, pag
         return false;
     }
     page <= last
+}
+
+// The least point from this one on whose record gives the interval that begins the text, by a reading of this row.
+fn time_after<'a>(
+    alloc: Global,
+    trace: &Trace,
+    known: &Known,
+    progress: &Progress,
+    place: TimePlace,
+    row: u32,
+    from: u64,
+    text: &'a [u8],
+) -> Result<Option<(u64, (Interval, &'a [u8]))>, Memory>
+    requires clock { IsClock trace.now.clock }
+    requires rows { length trace.now.clock ≤ MOST_HOST_ROWS }
+    requires knows { KnowsTrace trace.now known.now }
+    requires first { 1 ≤ row }
+    requires last { row ≤ length trace.now.clock }
+    requires from { from < 2 ^ 40 }
+    requires until { progress.now.point < 2 ^ 39 }
+    ensures { IfOk result (λ found. (course : Course) → ShowsCourse course progress.now → LeastTime trace.now course place.client place.call place.generation row place.page from progress.now.point text.now found) }
+{
+    let clock = trace.clock.as_slice();
+    time_point(
+        alloc,
+        trace.layout.period(),
+        progress.entries.as_slice(),
+        progress.before,
+        place,
+        reading(clock, u64::from(row)),
+        known.markers.get(place.page as usize).copied(),
+        from,
+        progress.point,
+        text,
+    )
 }
 
 /// The answer with an interval: it stands for the least point whose record gives it.
@@ -65,18 +100,7 @@ pub fn time_answer<'a>(
         generation,
         page,
     };
-    let found = time_point(
-        alloc,
-        trace.layout.period(),
-        progress.entries.as_slice(),
-        progress.before,
-        place,
-        reading(clock, u64::from(row)),
-        known.markers.get(page as usize).copied(),
-        seen.point,
-        progress.point,
-        text,
-    )?;
+    let found = time_after(alloc, trace, known, progress, place, row, seen.point, text)?;
     match found {
         Some((point, (interval, later))) => {
             let sequence = 0;

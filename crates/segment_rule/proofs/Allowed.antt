@@ -1,16 +1,14 @@
 -- A law of `segment_views` allows a step of the table.
-use Rattle.std.proofs.Common.{◌≡◌, ◌≢◌, ℕ, ◌+◌, ◌-◌, ◌*◌, ◌%◌, ◌<◌, ◌≤◌, ◌⊎◌, ⊎_elim, Bool, true, false, List, [], ◌∷◌, ◌++◌, length, refl, sym, subst, ap, arith}
-use Rattle.std.specs.Prelude.{slice_index, slice_set, ◌==◌, nat_lt, is_some}
+use Rattle.std.proofs.Common.{◌≡◌, ◌≢◌, ℕ, ◌+◌, ◌-◌, ◌%◌, ⊎_elim, Bool, true, false, List, length, refl, sym, subst, arith}
+use Rattle.std.specs.Prelude.{slice_index, ◌==◌, nat_lt}
 use Rattle.std.proofs.lemmas.Bool.{eqb-true, eqb-false, cases_eq}
 use Rattle.std.proofs.lemmas.Bool.Decides.{nat_tests}
-use mathlib.Core.Option.{some}
-use lib.ListN.{get_elem?}
-use Rattle.atomic_table.specs.Table.{State, Me, Step, Act, keeps, step, Allows, Splits, Joins}
+use Rattle.atomic_table.specs.Table.{Me, keeps, Allows, Splits}
 use Rattle.segment_views.specs.declared.setup.Setup.{Setup}
 use Rattle.segment_views.specs.Views.{SeatView}
-use Rattle.segment_views.specs.Rule.{SharedState, MeetsRule}
+use Rattle.segment_views.specs.Rule.{SharedState}
 use Rattle.segment_views.specs.Steps.{May, StateAfter, ViewAfter, Tells, KeepsRule, MayLoad, MayPage, same_state, clock_view, TellsClock, front_view, TellsFront, plain_view, TellsData, TellsZero, TellsPlain, page_view, TellsPage}
-use Rattle.segment_views.specs.Seats.{KeepsSplit, KeepsJoin}
+use Rattle.segment_views.specs.Seats.{KeepsSplit}
 use Rattle.segment_views.proofs.LoadLaws.{clock_law, zero_law, front_law, data_law, page_law, marker_law, plain_law}
 use Rattle.generation_word.specs.Header.{generation_in}
 use Rattle.segment_layout.specs.declared.publication.Publication.{Publication}

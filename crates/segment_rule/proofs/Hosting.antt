@@ -1,17 +1,16 @@
 -- A row of the host that is under way, and what one store more makes of it.
-use Rattle.std.proofs.Common.{◌≡◌, ◌≢◌, ℕ, zero, suc, ◌+◌, ◌-◌, ◌*◌, ◌/◌, ◌%◌, ◌^◌, ◌<◌, ◌≤◌, ◌⊎◌, inl, inr, Bool, true, false, List, [], ◌∷◌, ◌++◌, length, length-append, refl, sym, ap, ◌∙◌, subst, ne_eqb, arith, Option, Some, None}
-use Rattle.std.specs.Prelude.{◌==◌, slice_index, slice_index_or, is_some, IfSome, IsOk, Result, Ok, Err, if◌then◌else◌, nat_lt}
-use Rattle.std.proofs.lemmas.Bool.{cases_lt, cases_eq, eqb-true}
+use Rattle.std.proofs.Common.{◌≡◌, ℕ, zero, suc, ◌+◌, ◌-◌, ◌*◌, ◌%◌, ◌^◌, ◌<◌, ◌≤◌, inl, inr, true, false, List, [], ◌∷◌, ◌++◌, length, length-append, refl, sym, ap, ◌∙◌, subst, ne_eqb, arith, Option, Some, None}
+use Rattle.std.specs.Prelude.{◌==◌, slice_index, slice_index_or, is_some, IfSome, IsOk, Result, Ok, Err, nat_lt}
+use Rattle.std.proofs.lemmas.Bool.{cases_lt, cases_eq}
 use Rattle.std.proofs.lemmas.Bool.Decides.{nat_tests}
 use Rattle.std.proofs.lemmas.List.{get_or_past}
 use Rattle.clock_gate.specs.declared.act.Act.{Act}
-use Rattle.clock_gate.specs.declared.act.Act.TheVariants.{Load, Store, End}
-use Rattle.clock_gate.specs.declared.limits.TheConstants.{MOST_HOST_ROWS}
+use Rattle.clock_gate.specs.declared.act.Act.TheVariants.{Store, End}
 use Rattle.clock_gate.specs.declared.trace.HostRow.{HostRow}
 use Rattle.clock_gate.specs.declared.trace.HostRow.TheVariants.{Clock, Page, Disrupt}
 use Rattle.segment_layout.specs.Words.{flag_of}
 use Rattle.vmclock_page.specs.Host.{Host, IsHost, act_of, given, begun, new_host, constants_of, count_of, raised, page_stores, row_stores, stores_in_hand, count_after}
-use Rattle.vmclock_page.specs.Rows.{IsRowOf, IsPageRowAfter, IsStartPage}
+use Rattle.vmclock_page.specs.Rows.{IsRowOf, IsPageRowAfter}
 use Rattle.vmclock_page.specs.Words.{word_with_count, count_in_word}
 use Rattle.segment_views.specs.declared.setup.Setup.{Setup}
 use Rattle.segment_views.specs.Seats.{opener, without_daemon, pages_at_first, IsSetup}
@@ -20,9 +19,7 @@ use Rattle.segment_layout.specs.declared.start.Start.{Start}
 use Rattle.segment_layout.specs.declared.image_fault.ImageFault.{ImageFault}
 use Rattle.vmclock_page.specs.HostRows.{StartsEven}
 use Rattle.segment_views.specs.Views.{HostPart, SeatView, page_point_of}
-use Rattle.segment_views.specs.Rule.{count_word_at}
-use Rattle.segment_views.specs.Steps.{TellsHostPart, row_done, page_begun, page_filled, page_done}
-use Rattle.segment_rule.specs.Ruled.{Either}
+use Rattle.segment_views.specs.Steps.{page_filled}
 use Rattle.segment_rule.specs.Hosts.{TellsHost, MayHost, words_of_row, part_at, MayDoRow, part_after, IsBetweenRows}
 use Rattle.segment_rule.proofs.Opening.{to_left, to_right, of_left, of_right}
 

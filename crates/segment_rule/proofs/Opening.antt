@@ -1,7 +1,7 @@
 -- An opening that is under way, and what one step more makes of it.
-use Rattle.std.proofs.Common.{◌≡◌, ◌≢◌, ℕ, zero, suc, ◌+◌, ◌-◌, ◌*◌, ◌%◌, ◌^◌, ◌<◌, ◌≤◌, ◌⊎◌, ⊎_elim, inl, inr, Bool, true, false, List, [], ◌∷◌, ◌++◌, length, take, refl, sym, ap, ◌∙◌, subst, ne_eqb, arith, Option, Some, None, Ok, length-append, length-take-le}
-use Rattle.std.specs.Prelude.{◌==◌, nat_lt, slice_index, slice_index_or, if◌then◌else◌, IsOk}
-use Rattle.std.proofs.lemmas.Bool.{eqb-true, eqb-false, cases_lt, cases_eq, cases_Bool}
+use Rattle.std.proofs.Common.{◌≡◌, ◌≢◌, ℕ, zero, suc, ◌+◌, ◌%◌, ◌^◌, ◌<◌, ◌≤◌, ◌⊎◌, ⊎_elim, inl, inr, Bool, true, false, List, [], ◌∷◌, ◌++◌, length, take, refl, sym, ap, ◌∙◌, subst, ne_eqb, arith, Option, Some, None, Ok, length-append}
+use Rattle.std.specs.Prelude.{◌==◌, slice_index, slice_index_or, if◌then◌else◌}
+use Rattle.std.proofs.lemmas.Bool.{eqb-true, eqb-false, cases_lt, cases_eq}
 use Rattle.std.proofs.lemmas.Bool.Decides.{nat_tests}
 use Rattle.clock_gate.specs.declared.act.Act.{Act}
 use Rattle.clock_gate.specs.declared.act.Act.TheVariants.{Load, Store, End}
@@ -9,7 +9,7 @@ use Rattle.generation_word.specs.declared.layout.Layout.{Layout}
 use Rattle.generation_word.specs.declared.layout.Layout.TheVariants.{Two, Three}
 use Rattle.generation_word.specs.Layout.{period_of}
 use Rattle.generation_word.specs.Numbering.{odd_after, even_after}
-use Rattle.generation_word.specs.Header.{word1_of, header_of, generation_in}
+use Rattle.generation_word.specs.Header.{word1_of, generation_in}
 use Rattle.generation_word.proofs.Laws.{odd_after-at_rest, even_after-at_rest}
 use Rattle.segment_layout.specs.declared.words.TheConstants.{MAGIC}
 use Rattle.segment_layout.specs.declared.start.Start.{Start}
@@ -17,7 +17,7 @@ use Rattle.segment_layout.specs.declared.start.Start.TheVariants.{Fresh, Kept, T
 use Rattle.segment_layout.specs.Record.{RecordFields}
 use Rattle.segment_layout.specs.Image.{image_of, generation_of_start}
 use Rattle.segment_layout.specs.History.{last_store}
-use Rattle.segment_run.specs.SegmentRun.{SegmentRun, headed, opened_update, moved_once, header_shown, number_shown, number_at, start_found, is_old, is_old_in}
+use Rattle.segment_run.specs.SegmentRun.{SegmentRun, headed, opened_update, moved_once, header_shown, number_shown, number_at, start_found}
 use Rattle.segment_run.specs.ShowsSegment.{IsSegment, ShowsSegment}
 use Rattle.segment_run.proofs.SegmentHeader.{told_three, own_header_some, period_positive, number_told, number_at_rest, number_in_update, number_even, number_positive}
 use Rattle.segment_run.proofs.SegmentAdmitted.{segment_admitted}
@@ -34,7 +34,7 @@ use Rattle.writer_reopen.proofs.Images.{Opens, opens-load, opens-store}
 use Rattle.clock_gate.proofs.Acts.{replayed-append, wanted-append}
 use Rattle.std.proofs.lemmas.List.{get_or_past}
 use Rattle.clock_gate.specs.Acts.{Touch, Wanted, replayed}
-use Rattle.segment_views.specs.Steps.{TellsFront, TellsData, TellsZero, TellsDaemonPart, HasMagic, with_magic, with_head, move_begun, move_ended, stored, calls_of}
+use Rattle.segment_views.specs.Steps.{TellsFront, TellsZero, HasMagic, with_magic, with_head, move_begun, move_ended, stored, calls_of}
 use Rattle.segment_views.specs.Shown.{touches_of, IsSoundCall, PointsFollow, AddsStore}
 use Rattle.segment_rule.specs.Ruled.{Either, TellsLoad}
 use Rattle.segment_rule.proofs.Stepping as stepping

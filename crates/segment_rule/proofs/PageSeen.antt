@@ -1,16 +1,14 @@
 -- What the last load of a page's tries tells of the page: its count is the one that the marker is told with.
-use Rattle.std.proofs.Common.{◌≡◌, ◌≢◌, ℕ, zero, suc, ◌+◌, ◌-◌, ◌*◌, ◌/◌, ◌%◌, ◌^◌, ◌<◌, ◌≤◌, inl, inr, Bool, true, false, List, [], ◌∷◌, length, refl, sym, ap, ◌∙◌, subst, arith, Option, Some, None}
+use Rattle.std.proofs.Common.{◌≡◌, ◌≢◌, ℕ, zero, suc, ◌-◌, ◌*◌, ◌%◌, ◌^◌, ◌<◌, ◌≤◌, inl, inr, false, List, [], ◌∷◌, length, refl, sym, ap, ◌∙◌, arith, Option, Some, None}
 use Rattle.std.specs.Prelude.{◌==◌, is_some}
 use Rattle.std.proofs.lemmas.Bool.{cases_Bool, cases_eq, eqb-true, eqb-false, eq-eqb}
-use Rattle.std.proofs.lemmas.Bool.Decides.{nat_tests}
-use Rattle.clock_gate.specs.declared.act.Act.{Act}
 use Rattle.clock_gate.specs.declared.act.Act.TheVariants.{Load}
 use Rattle.seqlock.specs.Tries.{SeqlockRead, Progress, IsCalm, failed_try}
 use Rattle.seqlock.specs.Tries as tries
 use Rattle.seqlock.proofs.Tries as laws
 use Rattle.vmclock_page.specs.declared.page_seen.PageSeen.{PageSeen}
-use Rattle.vmclock_page.specs.declared.page_seen.PageSeen.TheVariants.{Marker, Busy}
-use Rattle.vmclock_page.specs.Words.{count_in_word, constants_in_word, word_with_count}
+use Rattle.vmclock_page.specs.declared.page_seen.PageSeen.TheVariants.{Marker}
+use Rattle.vmclock_page.specs.Words.{count_in_word}
 use Rattle.vmclock_page.specs.Host.{constants_of, count_of, raised}
 use Rattle.vmclock_page.specs.Counting.{page_number_of}
 use Rattle.vmclock_page.specs.PageRead.{page_lock, page_seen}

@@ -1,7 +1,7 @@
 -- A poll that is under way, and what one step more makes of it.
-use Rattle.std.proofs.Common.{◌≡◌, ◌≢◌, ℕ, zero, suc, ◌+◌, ◌-◌, ◌*◌, ◌%◌, ◌<◌, ◌≤◌, ◌⊎◌, ⊎_elim, inl, inr, Bool, true, false, List, [], ◌∷◌, ◌++◌, length, refl, sym, ap, ◌∙◌, subst, arith, Option, Some, None}
+use Rattle.std.proofs.Common.{◌≡◌, ◌≢◌, ℕ, ◌+◌, ◌-◌, ◌*◌, ◌%◌, ◌<◌, ◌≤◌, ◌⊎◌, inl, inr, Bool, true, false, List, [], ◌∷◌, ◌++◌, length, refl, sym, ap, ◌∙◌, subst, arith, Option, Some, None}
 use Rattle.std.specs.Prelude.{◌==◌, slice_index_or, if◌then◌else◌, IfSome, is_some}
-use Rattle.std.proofs.lemmas.Bool.{cases_eq, cases_lt, eqb-true}
+use Rattle.std.proofs.lemmas.Bool.{cases_eq, eqb-true}
 use Rattle.std.proofs.lemmas.Option.{slice_get-get_or}
 use Rattle.clock_gate.specs.declared.act.Act.{Act}
 use Rattle.clock_gate.specs.declared.act.Act.TheVariants.{Load, Store, End}
@@ -15,7 +15,6 @@ use Rattle.generation_word.specs.Layout.{period_of}
 use Rattle.generation_word.specs.Header.{generation_in}
 use Rattle.generation_word.specs.Numbering.{even_after}
 use Rattle.segment_layout.specs.declared.publication.Publication.{Publication}
-use Rattle.segment_layout.specs.History.{History}
 use Rattle.seqlock.specs.Tries.{SeqlockRead}
 use Rattle.seqlock.specs.Tries as tries
 use Rattle.seqlock.proofs.Tries as laws
@@ -26,8 +25,6 @@ use Rattle.vmclock_page.specs.PageRead as page
 use Rattle.vmclock_page.specs.Host.{count_of}
 use Rattle.vmclock_page.specs.Counting.{page_number_of}
 use Rattle.status_machine.specs.declared.daemon.Daemon.{Daemon}
-use Rattle.status_machine.specs.declared.poll.Poll.{Poll}
-use Rattle.status_machine.specs.Step.{daemon_step, record_of}
 use Rattle.status_machine.proofs.Fits.{daemon_step-fits, record_of-fits}
 use Rattle.shm_writer.specs.Publisher.{Publishing, stores, publishing_act}
 use Rattle.writer_reopen.specs.declared.order.Order.{Order}
@@ -39,7 +36,7 @@ use Rattle.writer_reopen.specs.declared.stage.Stage.TheVariants as stages
 use Rattle.writer_reopen.specs.declared.stage.Taken.{Taken}
 use Rattle.writer_reopen.specs.Causes.{IsSkipped, IsStopped, IsPublished}
 use Rattle.writer_reopen.specs.Poll.{AreRows, reading_at, row_with, sequence_seen, poll_for, daemon_for, taken_for, storing_of}
-use Rattle.writer_reopen.specs.PollMachine.{Polling, new_polling, looking_by, stage_progress, polling_act, polling_given, polling_end, stage_seen, stage_given, IsUnseen, IsUpdate, IsPollStage, DaemonFits, OrderFits, StageFits, entry_of}
+use Rattle.writer_reopen.specs.PollMachine.{Polling, new_polling, looking_by, stage_progress, polling_act, polling_given, polling_end, stage_seen, stage_given, IsUnseen, IsUpdate, IsPollStage, OrderFits, StageFits}
 use Rattle.writer_reopen.specs.Progress.{act_of}
 use Rattle.writer_reopen.proofs.Cut.{act_before_stop, act_at_stop}
 use Rattle.writer_reopen.proofs.Causes.{skipped, stopped, published}
@@ -52,8 +49,8 @@ use Rattle.status_machine.specs.declared.heard.Heard.{Heard}
 use Rattle.status_machine.specs.Poll.{BaseFits}
 use Rattle.segment_views.specs.declared.setup.Setup.{Setup}
 use Rattle.segment_views.specs.Views.{DaemonPart, Seen, SeatView, point_of}
-use Rattle.segment_views.specs.Steps.{calls_of, stored, TellsDaemonPart, TellsPage, TellsClock, update_begun, update_filled, update_ended}
-use Rattle.segment_views.specs.Shown.{touches_of, AddsLoad, AddsStore, IsSoundCall, PointsFollow}
+use Rattle.segment_views.specs.Steps.{calls_of, stored, TellsPage, TellsClock, update_begun, update_filled, update_ended}
+use Rattle.segment_views.specs.Shown.{touches_of, AddsStore, IsSoundCall, PointsFollow}
 use Rattle.segment_views.proofs.Shown.{touches-snoc, ran_first, ran_more, sound_stored, follows_first, follows_load, follows_store}
 use Rattle.segment_views.proofs.Told.{daemon_stores}
 use Rattle.segment_rule.specs.Ruled.{TellsLoad, MayLoadWord}

@@ -1,10 +1,10 @@
 -- A client's call that is under way, and what one load more makes of it.
-use Rattle.std.proofs.Common.{◌≡◌, ◌≢◌, ℕ, zero, suc, ◌+◌, ◌-◌, ◌*◌, ◌/◌, ◌%◌, ◌<◌, ◌≤◌, ◌⊎◌, ⊎_elim, inl, inr, Bool, true, false, List, [], ◌∷◌, ◌++◌, length, refl, sym, ap, ◌∙◌, subst, ne_eqb, arith, Option, Some, None}
-use Rattle.std.specs.Prelude.{◌==◌, nat_lt, not, is_some, IfSome, if◌then◌else◌}
+use Rattle.std.proofs.Common.{◌≡◌, ◌≢◌, ℕ, zero, suc, ◌+◌, ◌/◌, ◌%◌, ◌<◌, ◌≤◌, ◌⊎◌, ⊎_elim, inl, inr, Bool, true, false, List, [], ◌∷◌, ◌++◌, length, refl, sym, ap, ◌∙◌, subst, ne_eqb, arith, Option, Some, None}
+use Rattle.std.specs.Prelude.{◌==◌, nat_lt, not, is_some, IfSome}
 use Rattle.std.proofs.lemmas.Bool.{eqb-true, eqb-false, cases_lt, cases_Bool}
 use Rattle.std.proofs.lemmas.Bool.Decides.{nat_tests}
 use Rattle.clock_gate.specs.declared.act.Act.{Act}
-use Rattle.clock_gate.specs.declared.act.Act.TheVariants.{Load, Store, End}
+use Rattle.clock_gate.specs.declared.act.Act.TheVariants.{Load, End}
 use Rattle.clock_gate.specs.declared.clock_row.ClockRow.{ClockRow}
 use Rattle.clock_gate.specs.declared.clock_row.Reading.{Reading}
 use Rattle.clock_gate.specs.declared.limits.TheConstants.{MOST_HOST_ROWS}
@@ -14,11 +14,9 @@ use Rattle.seqlock.specs.Tries.{Seqlock, SeqlockRead, Attempt, Wants, Outcome, U
 use Rattle.seqlock.specs.Tries as tries
 use Rattle.seqlock.proofs.Tries as laws
 use Rattle.clock_gate.proofs.Acts.{replayed-append, wanted-append}
-use Rattle.generation_word.specs.declared.layout.Layout.{Layout}
 use Rattle.generation_word.specs.Layout.{period_of}
 use Rattle.generation_word.specs.Numbering.{generation_at}
 use Rattle.generation_word.proofs.Laws.{generation_at-even}
-use Rattle.segment_layout.specs.Image.{IsHeaderFor}
 use Rattle.segment_layout.specs.Record.{RecordFields}
 use Rattle.segment_layout.specs.Words.{IsGoodWord}
 use Rattle.segment_run.proofs.SegmentHeader.{header_tells}
@@ -39,9 +37,9 @@ use Rattle.interval_now.specs.Call as calls
 use Rattle.interval_now.specs.Call.{Call, IsCall, started_call, act_of, act_at, end_of, end_at, given, stage_given, after_segment, after_clock, after_page, IsRowNumber}
 use Rattle.interval_now.proofs.CallSteps.{call_nearer, early_at}
 use Rattle.segment_views.specs.declared.setup.Setup.{Setup}
-use Rattle.segment_views.specs.Views.{Begins, SeatView, number_of_point}
-use Rattle.segment_views.specs.Steps.{loaded, steps_at, TellsFront, TellsData, TellsZero, TellsPage, TellsPlain, TellsClock}
-use Rattle.segment_views.specs.Shown.{touches_of, AddsLoad, IsSoundCall}
+use Rattle.segment_views.specs.Views.{SeatView, number_of_point}
+use Rattle.segment_views.specs.Steps.{loaded, TellsFront, TellsData, TellsClock}
+use Rattle.segment_views.specs.Shown.{touches_of, AddsLoad}
 use Rattle.segment_views.proofs.Lists.{begins_length}
 use Rattle.segment_views.proofs.Shown.{touches-snoc, ran_first, ran_more}
 use Rattle.segment_views.proofs.Told.{front_loads, page_loads, clock_loads, plain_loads}

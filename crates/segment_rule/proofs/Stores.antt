@@ -1,10 +1,9 @@
 -- The stores of a publication by their number, and what each makes of what the daemon owns.
-use Rattle.std.proofs.Common.{◌≡◌, ◌≢◌, ℕ, zero, suc, ◌+◌, ◌-◌, ◌*◌, ◌%◌, ◌<◌, ◌≤◌, ◌⊎◌, ⊎_elim, inl, inr, Bool, true, false, List, [], ◌∷◌, ◌++◌, length, refl, sym, ap, ◌∙◌, subst, ne_eqb, arith, Option, Some, None}
+use Rattle.std.proofs.Common.{◌≡◌, ◌≢◌, ℕ, zero, suc, ◌+◌, ◌-◌, ◌*◌, ◌%◌, ◌<◌, ◌≤◌, inl, inr, Bool, true, false, [], ◌∷◌, ◌++◌, refl, sym, ap, ◌∙◌, subst, ne_eqb, arith}
 use Rattle.std.specs.Prelude.{◌==◌, slice_index, slice_index_or}
 use Rattle.std.proofs.lemmas.Bool.{cases_lt, cases_eq}
 use Rattle.std.proofs.lemmas.Bool.Decides.{nat_tests}
 use Rattle.std.proofs.lemmas.List.{get_or_past}
-use Rattle.clock_gate.specs.declared.act.Act.{Act}
 use Rattle.clock_gate.specs.declared.act.Act.TheVariants.{Load, Store, End}
 use Rattle.generation_word.specs.declared.layout.Layout.{Layout}
 use Rattle.generation_word.specs.Layout.{period_of}
@@ -21,10 +20,8 @@ use Rattle.shm_writer.proofs.Laws.{stores-by_word}
 use Rattle.segment_run.specs.SegmentRun.{SegmentRun, header_shown, number_shown, number_at}
 use Rattle.segment_run.proofs.SegmentHeader.{header_tells, own_header, period_positive, number_at_rest, number_in_update, number_even}
 use Rattle.segment_views.specs.Views.{DaemonPart, SeatView}
-use Rattle.segment_views.specs.Steps.{TellsDaemonPart, update_begun, update_filled, update_ended}
-use Rattle.segment_rule.specs.Ruled.{Either}
+use Rattle.segment_views.specs.Steps.{update_begun, update_filled, update_ended}
 use Rattle.segment_rule.specs.Polls.{TellsPoll, MayPoll}
-use Rattle.segment_rule.proofs.Stepping.{by_test}
 use Rattle.segment_rule.proofs.Opening.{to_left, to_right, of_left, of_right}
 
 -- ---- the numbers of the next publication

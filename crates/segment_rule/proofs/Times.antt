@@ -1,12 +1,11 @@
 -- What the last try of a call shows: the entry of the history at the front, where fewer publications than a period lie inside.
-use Rattle.std.proofs.Common.{◌≡◌, ◌≢◌, ℕ, zero, suc, ◌+◌, ◌/◌, ◌%◌, ◌<◌, ◌≤◌, Bool, true, false, List, [], ◌∷◌, ◌++◌, length, refl, sym, ap, ◌∙◌, subst, arith, append_assoc}
+use Rattle.std.proofs.Common.{◌≡◌, ◌≢◌, ℕ, suc, ◌≤◌, false, List, [], ◌∷◌, ◌++◌, refl, sym, ap, subst, arith, append_assoc}
 use Rattle.std.specs.Prelude.{◌==◌}
 use Rattle.std.proofs.lemmas.List.{append-nil}
 use Rattle.std.proofs.lemmas.Bool.Decides.{nat_tests}
 use Rattle.clock_gate.specs.Acts.{Touch}
-use Rattle.seqlock.specs.TriedRun.{load, loads_from, whole_try}
+use Rattle.seqlock.specs.TriedRun.{load, loads_from}
 use Rattle.segment_layout.specs.declared.publication.Publication.{Publication}
-use Rattle.shm_reader.specs.SegmentTries.{segment_lock}
 use Rattle.segment_views.specs.declared.setup.Setup.{Setup}
 use Rattle.segment_views.specs.Views.{Step, SegmentTry, after_step, segment_try_after}
 use Rattle.segment_views.specs.Steps.{IsWholeRead}

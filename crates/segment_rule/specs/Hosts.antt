@@ -1,5 +1,5 @@
 -- The host's rows: its stores, and what a row leaves.
-use Rattle.std.specs.Prelude.{◌≡◌, ℕ, ◌+◌, ◌-◌, ◌*◌, ◌%◌, ◌<◌, ◌≤◌, ◌==◌, Bool, true, false, List, [], ◌∷◌, ◌++◌, length, slice_index, Option, Some, None, is_some, if◌then◌else◌}
+use Rattle.std.specs.Prelude.{◌≡◌, ℕ, ◌+◌, ◌-◌, ◌*◌, ◌%◌, ◌<◌, ◌≤◌, ◌==◌, true, List, [], ◌∷◌, ◌++◌, length, slice_index, is_some, if◌then◌else◌}
 use Rattle.clock_gate.specs.declared.act.Act.TheVariants.{End}
 use Rattle.clock_gate.specs.declared.limits.TheConstants.{MOST_HOST_ROWS}
 use Rattle.clock_gate.specs.declared.trace.HostRow.{HostRow}

@@ -1,20 +1,18 @@
 -- The daemon's opening: its stores, and what is in hand.
-use Rattle.std.specs.Prelude.{◌≡◌, ◌≢◌, ◌⊎◌, ℕ, ◌+◌, ◌-◌, ◌%◌, ◌^◌, ◌<◌, ◌≤◌, ◌==◌, nat_lt, Bool, true, false, if◌then◌else◌, List, [], ◌∷◌, ◌++◌, length, slice_index, Option, Some, None, is_some, IsOk}
+use Rattle.std.specs.Prelude.{◌≡◌, ◌≢◌, ◌⊎◌, ℕ, ◌+◌, ◌%◌, ◌^◌, ◌<◌, ◌==◌, Bool, true, false, if◌then◌else◌, [], ◌∷◌, ◌++◌, Option, Some, None}
 use Rattle.clock_gate.specs.Acts.{Wanted, replayed}
-use Rattle.generation_word.specs.declared.layout.Layout.{Layout}
 use Rattle.generation_word.specs.Header.{word1_of}
 use Rattle.segment_layout.specs.declared.words.TheConstants.{MAGIC}
-use Rattle.segment_layout.specs.declared.publication.Publication.{Publication}
 use Rattle.segment_layout.specs.declared.start.Start.{Start}
 use Rattle.segment_layout.specs.declared.start.Start.TheVariants.{Fresh, Kept, Torn}
-use Rattle.segment_layout.specs.History.{History, last_store}
+use Rattle.segment_layout.specs.History.{History}
 use Rattle.segment_layout.specs.Image.{generation_of_start}
 use Rattle.segment_run.specs.SegmentRun.{SegmentRun, published_at, headed, opened_update, moved_once, number_at, number_shown, header_shown, start_found, no_publication}
 use Rattle.generation_word.specs.Header.{generation_in}
 use Rattle.segment_run.specs.ShowsSegment.{IsSegment}
 use Rattle.writer_reopen.specs.declared.opening.Opening.{Opening}
-use Rattle.writer_reopen.specs.Opening.{OpenerState, is_old, new_opener, opening_act, opening_given, opening_end}
-use Rattle.segment_views.specs.Views.{DaemonPart, SeatView, Step, no_update, point_of}
+use Rattle.writer_reopen.specs.Opening.{is_old, new_opener, opening_act, opening_given, opening_end}
+use Rattle.segment_views.specs.Views.{DaemonPart, SeatView, no_update, point_of}
 use Rattle.segment_views.specs.Steps.{Tells, TellsDaemonPart, HasMagic, with_magic, with_head, move_begun, move_ended, calls_of}
 use Rattle.segment_views.specs.Shown.{touches_of, IsSoundCall, PointsFollow}
 use Rattle.atomic_table.specs.Seated.{TableId}

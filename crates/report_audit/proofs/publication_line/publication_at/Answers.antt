@@ -31,7 +31,7 @@ returns-in-Some-2 c course life row shows past heard =
     subst (λ (e : Entry). Publishes c.args.trace.now course life row c.args.text.now e c.poll_at-rec.new.daemon c.in-Some-2.later.now) (sym c.entry_told-entry.ensures)
     (published_found c.args.trace.now course life row c.args.progress.now c.poll_at-rec.new.daemon (length c.as_slice-clock.result.now) c.args.known.now.pages.most (c.args.progress.now.point / 2 + 1) c.in-Some.page (c.args.progress.now.polled + 1) c.generation.result c.in-Some.asked c.in-Some.replied c.poll_at-rec.result.1 c.poll_at-rec.result.0 c.args.text.now c.in-Some-2.later.now
     shows (ap (λ (rows : List ClockRow). length rows) (sym c.as_slice-clock.ensures)) c.requires.knows.pages.most_is place polled c.poll_at-rec.ensures.base refl refl c.generation.ensures.value
-    (rw c.in-Some-2.is at c.in_ok-later.ensures.found))
+    (rw (c.in-Some-2.is, c.line_told-line.ensures) at c.in_ok-later.ensures.found))
 
 pub returns-in-None : goal.returns-in-None
 returns-in-None c course life row shows past heard position page p later is begins =
@@ -46,4 +46,4 @@ returns-in-None c course life row shows past heard position page p later is begi
     (omega (arith, shows.point_is, c.requires.point)) (omega (arith, shows.polled, c.requires.polled)) (ap (λ (rows : List ClockRow). length rows) (sym c.as_slice-clock.ensures)) c.requires.rows c.requires.knows.pages.most_is c.requires.knows.most is begins in
     let line = one_publication c.args.trace.now course life row c.args.progress.now c.poll_at-rec.new.daemon position (c.args.progress.now.point / 2 + 1) page c.in-Some.page (c.args.progress.now.polled + 1) c.generation.result c.in-Some.asked c.in-Some.replied c.poll_at-rec.result.1 c.poll_at-rec.result.0 p
     shows is polled (c.in-Some.ensures.found.0 ∙ reads.reads.asked_is) (c.in-Some.ensures.found.1 ∙ reads.reads.page_is) (c.in-Some.ensures.found.2 ∙ reads.reads.replied_is) refl refl c.generation.ensures.value in
-    (rw c.in-None.is at c.in_ok-later.ensures.other) later (begins ∙ ap (λ (l : List ℕ). l ++ later) line)
+    (rw (c.in-None.is, c.line_told-line.ensures) at c.in_ok-later.ensures.other) later (begins ∙ ap (λ (l : List ℕ). l ++ later) line)

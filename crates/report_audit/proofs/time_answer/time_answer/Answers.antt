@@ -1,9 +1,8 @@
-use Rattle.std.proofs.Common.{◌≡◌, ℕ, ◌≤◌, List, length, arith, rules, refl, ap, sym, subst, ◌∙◌}
+use Rattle.std.proofs.Common.{ℕ, ◌≤◌, List, length, arith, rules, refl, ap, sym, subst, ◌∙◌}
 use Rattle.clock_gate.specs.declared.clock_row.ClockRow.{ClockRow}
-use Rattle.clock_gate.specs.declared.clock_row.Reading.{Reading}
-use Rattle.report_audit.specs.FoundLines.{PlaceFits, KnowsRun, TimeFits}
+use Rattle.report_audit.specs.FoundLines.{PlaceFits, TimeFits}
 use Rattle.report_audit.proofs.AnswerKinds.{no_time}
-use Rattle.report_audit.proofs.TimeReads.{time_reads, time_found, known_run}
+use Rattle.report_audit.proofs.TimeReads.{time_reads, time_found}
 use Rattle.report_audit.proofs.time_answer.time_answer.Goals as goal
 
 pub returns-in_default : goal.returns-in_default
@@ -19,10 +18,7 @@ returns-then-not-place_fits c course shows = no_time c.args.trace.now course c.a
 
 pub returns-in-Some-found : goal.returns-in-Some-found
 returns-in-Some-found c course shows =
-    let row_is : c.reading.result.row ≡ c.in-Some.row = ap (λ (r : Reading). r.row) c.reading.ensures.exact ∙ c.from.ensures in
-    let knows : KnowsRun c.args.trace.now course c.as_slice.result.now c.args.progress.now.before c.reading.result.row c.in-Some.page c.reading.result.mono c.reading.result.real c.copied.result c.period.result =
-    known_run c.args.trace.now course c.args.known.now c.args.progress.now c.as_slice.result.now c.as_slice-clock.result.now c.from.result c.in-Some.page c.period.result c.reading.result c.copied.result shows c.requires.knows c.as_slice.ensures.value c.as_slice-clock.ensures c.reading.ensures.exact (c.copied.ensures ∙ c.get.ensures) c.period.ensures.value in
-    let told = rw row_is at (rw c.in-Some-found.is at (c.in_ok-found.ensures c.args.trace.now course knows)) in
+    let told = rw c.in-Some-found.is at (c.in_ok-found.ensures course shows) in
     let place : PlaceFits c.args.seen (length c.as_slice-clock.result.now) c.args.known.now.pages.most c.in-Some.generation c.in-Some.row c.in-Some.page = search rules in
     record {
       page = c.in-Some.page;
@@ -34,10 +30,7 @@ returns-in-Some-found c course shows =
 pub returns-in-None : goal.returns-in-None
 returns-in-None c course shows = no_time c.args.trace.now course c.args.call c.args.seen c.args.text.now (λ page t after later time begins.
     let is = time_reads c.args.trace.now course c.args.call c.args.seen after (length c.as_slice-clock.result.now) c.args.known.now.pages.most page t c.args.text.now later (search rules) (search rules) (ap (λ (rows : List ClockRow). length rows) (sym c.as_slice-clock.ensures)) c.requires.rows c.requires.knows.pages.most_is c.requires.knows.most time begins in
-    let row_is : c.reading.result.row ≡ c.in-Some.row = ap (λ (r : Reading). r.row) c.reading.ensures.exact ∙ c.from.ensures in
-    let knows : KnowsRun c.args.trace.now course c.as_slice.result.now c.args.progress.now.before c.reading.result.row c.in-Some.page c.reading.result.mono c.reading.result.real c.copied.result c.period.result =
-    known_run c.args.trace.now course c.args.known.now c.args.progress.now c.as_slice.result.now c.as_slice-clock.result.now c.from.result c.in-Some.page c.period.result c.reading.result c.copied.result shows c.requires.knows c.as_slice.ensures.value c.as_slice-clock.ensures c.reading.ensures.exact (c.copied.ensures ∙ c.get.ensures) c.period.ensures.value in
-    let told = rw c.in-None.is at (c.in_ok-found.ensures c.args.trace.now course knows) in
-    let fits : TimeFits c.args.trace.now course c.args.call.client c.args.call.number c.in-Some.generation c.reading.result.row c.in-Some.page c.args.text.now after.point =
-    rw (c.in-Some.ensures.found.0 ∙ is.reads.generation_is, row_is ∙ (c.in-Some.ensures.found.1 ∙ is.reads.row_is), c.in-Some.ensures.found.2 ∙ is.reads.page_is) is.fits in
+    let told = rw c.in-None.is at (c.in_ok-found.ensures course shows) in
+    let fits : TimeFits c.args.trace.now course c.args.call.client c.args.call.number c.in-Some.generation c.in-Some.row c.in-Some.page c.args.text.now after.point =
+    rw (c.in-Some.ensures.found.0 ∙ is.reads.generation_is, c.in-Some.ensures.found.1 ∙ is.reads.row_is, c.in-Some.ensures.found.2 ∙ is.reads.page_is) is.fits in
     told after.point time.least.not_before (subst (λ (n : ℕ). after.point ≤ n) shows.point_is time.least.not_past) fits)

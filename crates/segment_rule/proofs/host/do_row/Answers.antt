@@ -1,4 +1,4 @@
-use Rattle.std.proofs.Common.{rules, ◌≡◌, ◌%◌, refl, sym, ap, subst, ◌∙◌}
+use Rattle.std.proofs.Common.{◌≡◌, ◌%◌, refl, sym, ap, subst, ◌∙◌}
 use Rattle.clock_gate.specs.declared.act.Act.TheVariants.{Store}
 use Rattle.vmclock_page.specs.Host.{Host, act_of}
 use Rattle.segment_views.specs.Views.{SeatView}

@@ -1,4 +1,4 @@
-use Rattle.std.proofs.Common.{rules, true, false, sym, ap, ◌∙◌}
+use Rattle.std.proofs.Common.{rules, false, sym, ap, ◌∙◌}
 use Rattle.segment_rule.proofs.Allowed.{load_allowed}
 use Rattle.segment_rule.proofs.Opening.{part_loads}
 use Rattle.segment_rule.proofs.Stepping.{loads_told}

@@ -1,4 +1,4 @@
-use Rattle.std.proofs.Common.{rules, ◌≡◌, true, refl, sym, ap, subst, ◌∙◌}
+use Rattle.std.proofs.Common.{rules, ◌≡◌, sym, ap, subst, ◌∙◌}
 use Rattle.clock_gate.specs.declared.act.Act.TheVariants.{Load, Store}
 use Rattle.writer_reopen.specs.Opening.{opening_act}
 use Rattle.segment_rule.specs.Opens.{IsDaemonPart}

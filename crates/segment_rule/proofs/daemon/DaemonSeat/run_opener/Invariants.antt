@@ -1,6 +1,5 @@
 use Rattle.std.proofs.Common.{◌≡◌, false}
 use Rattle.writer_reopen.specs.Opening.{opening_left}
-use Rattle.segment_rule.specs.Opens.{IsDaemonPart}
 use Rattle.segment_rule.proofs.Opening.{IsUnderWay}
 use Rattle.segment_rule.proofs.daemon.DaemonSeat.run_opener.Given as goal
 

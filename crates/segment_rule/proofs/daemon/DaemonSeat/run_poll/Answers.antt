@@ -1,9 +1,9 @@
-use Rattle.std.proofs.Common.{rules, ℕ, ◌≡◌, ◌≤◌, true, false, refl, sym, ap, subst, ◌∙◌, arith}
+use Rattle.std.proofs.Common.{ℕ, ◌≡◌, sym, ap, subst, ◌∙◌}
 use Rattle.clock_gate.specs.declared.act.Act.TheVariants.{Load, Store}
 use Rattle.writer_reopen.specs.PollMachine.{Polling, polling_act, polling_given}
 use Rattle.segment_rule.specs.Opens.{IsDaemonPart}
 use Rattle.segment_rule.specs.Polls.{order_for, OpenAfter}
-use Rattle.segment_rule.proofs.Polling.{IsPolling, MayBegin, may_begin, begun_as, number_small, may_wanted, row_wanted, polling_first, polling_load, poll_may, polling_store, polled_at_end}
+use Rattle.segment_rule.proofs.Polling.{IsPolling, may_begin, begun_as, may_wanted, polling_first, polling_load, poll_may, polling_store, polled_at_end}
 use Rattle.segment_rule.proofs.daemon.DaemonSeat.run_poll.Goals as goal
 
 pub polling-init : goal.polling-init

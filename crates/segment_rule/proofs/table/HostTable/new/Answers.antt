@@ -1,5 +1,5 @@
-use Rattle.std.proofs.Common.{rules, sym, subst}
-use Rattle.vmclock_page.specs.Host.{Host, IsHost}
+use Rattle.std.proofs.Common.{rules, subst}
+use Rattle.vmclock_page.specs.Host.{IsHost}
 use Rattle.segment_rule.proofs.Hosting.{is_setup}
 use Rattle.segment_rule.proofs.table.HostTable.new.Goals as goal
 

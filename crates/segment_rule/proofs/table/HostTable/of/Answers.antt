@@ -1,4 +1,4 @@
-use Rattle.std.proofs.Common.{rules, refl, [], sym, subst, ◌∙◌}
+use Rattle.std.proofs.Common.{rules, sym, subst, ◌∙◌}
 use Rattle.vmclock_page.specs.Host.{Host}
 use Rattle.segment_rule.specs.Hosts.{IsBetweenRows}
 use Rattle.segment_views.specs.Seats.{opening_state, IsHost, IsDaemon, host_to, daemon_to, without_host, without_daemon}
