@@ -11,7 +11,7 @@ trap 'rm -rf "$work"' EXIT
 head -c 16777216 /dev/zero | tr '\0' '\n' > "$work/feeds.txt"
 reply=$(cat "$top/examples/steady-reply.hex")
 yes "$reply" | tr -d '\n' | head -c 16777216 > "$work/digits.txt"
-for text in reads spans turns lines calls polls; do
+for text in reads spans turns lines calls polls full; do
     "$top/bench/texts.py" "$text" > "$work/$text.txt"
 done
 
@@ -53,6 +53,7 @@ best "replay, 20,000 polls and their calls" "$work/polls.txt" replay
 best "replay, 50,000,000 turns of two clients" "$work/turns.txt" replay
 best "replay, 49,999,950 turns in 999,999 lines" "$work/lines.txt" replay
 best "replay, 100,000 polls and 300,000 calls" "$work/calls.txt" replay
+best "order 1000000, 16 MiB" "$work/full.txt" order 1000000
 best "decode reply, one reply" "$top/examples/steady-reply.hex" decode reply
 best "decode reply, 16 MiB of digits" "$work/digits.txt" decode reply
 best "pagetime, 299,999 reads" "$work/reads.txt" pagetime

@@ -2,7 +2,8 @@
 """texts.py NAME: a text for a measure, on standard output: `reads`, 299,999 readings of one page; `spans`, 299,000 changes of the spans
 of 1,000 servers with 1,000 questions among them; `turns`, 50,000,000 turns of two clients whose calls meet an update that never ends;
 `lines`, 49,999,950 turns in 999,999 lines, most of them of parties without a job; `calls`, 100,000 polls and 300,000 calls; `polls`, 20,000
-polls, each with its clock row and three calls, and 800,000 lines of any party's turns."""
+polls, each with its clock row and three calls, and 800,000 lines of any party's turns; `full`, seconds of a clock row with its true time, a poll and
+three calls until 16 MiB are full."""
 import pathlib
 import random
 import sys
@@ -66,6 +67,19 @@ def polls():
         yield f"run,{draw.choice(['h', 'd', 'c1', 'c2', 'c3'])},{draw.randint(1, 20)}"
 
 
+def full():
+    draw = random.Random(1)
+    size, k = 0, 0
+    seconds = ["clockbound-trace,1", f"page,{PAGE}"]
+    while size + sum(map(len, seconds)) + len(seconds) <= 16_777_216:
+        yield from seconds
+        size += sum(map(len, seconds)) + len(seconds)
+        k += 1
+        real = 1700000000 * 10**9 + k * 10**9
+        reply = f"{REPLY[:120]}{0x65000000 + k:08x}{REPLY[128:]}"
+        seconds = [f"clock,{k * 10**9},{real},{real + draw.randint(-3_000, 3_000)}", f"poll,{reply}", "call,1", "call,2", "call,3"]
+
+
 def lines():
     yield "clockbound-trace,1"
     yield f"clock,{10**12},{1700000000 * 10**9}"
@@ -75,7 +89,7 @@ def lines():
 
 
 def main():
-    for line in {"reads": reads, "spans": spans, "turns": turns, "calls": calls, "lines": lines, "polls": polls}[sys.argv[1]]():
+    for line in {"reads": reads, "spans": spans, "turns": turns, "calls": calls, "lines": lines, "polls": polls, "full": full}[sys.argv[1]]():
         print(line)
 
 

@@ -1,4 +1,5 @@
 pub mod Appended
 pub mod Dated
+pub mod HeldEnds
 pub mod LineEnds
 pub mod ReportLines

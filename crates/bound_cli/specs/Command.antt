@@ -3,10 +3,11 @@
 use Rattle.std.specs.Prelude.{◌≤◌, ℕ, ◌-◌, ◌^◌, Bool, true, false, List, [], ◌∷◌, codes, Option, Some, None, Result, Ok, Err, if◌then◌else◌}
 use Rattle.std.specs.Str.{bytes_eq}
 use Rattle.decode_text.specs.declared.what.What.TheVariants.{Reply, Page, Image}
+use Rattle.bound_order.specs.declared.lease.TheConstants.{LONGEST_LEASE}
 use Rattle.drill_day.specs.declared.limits.TheConstants.{FEWEST_DAY_POLLS, MOST_DAY_POLLS}
 use Rattle.csv_records.specs.Fields.{number_in}
 use Rattle.bound_cli.specs.declared.command.Command.{Command}
-use Rattle.bound_cli.specs.declared.command.Command.TheVariants.{Replay, Decode, Pagetime, Agree, Drill, DrillTrace}
+use Rattle.bound_cli.specs.declared.command.Command.TheVariants.{Replay, Decode, Pagetime, Agree, Order, Drill, DrillTrace}
 use Rattle.bound_cli.specs.declared.times.Times.TheVariants.{Nanoseconds, Civil}
 
 -- no word follows; one that does has this number
@@ -27,6 +28,15 @@ decode_of (what ∷ words) =
     else if bytes_eq what (codes "page") then alone (Decode Page) 3 words
     else if bytes_eq what (codes "image") then alone (Decode Image) 3 words
     else Err 2
+
+-- `order LENGTH`
+abbrev pub ordering_for : Option ℕ → List (List ℕ) → Result Command ℕ
+ordering_for None words = Err 2
+ordering_for (Some length) words = alone (Order length) 3 words
+
+abbrev pub ordering_of : List (List ℕ) → Result Command ℕ
+ordering_of [] = Err 2
+ordering_of (length ∷ words) = ordering_for (number_in 0 LONGEST_LEASE length) words
 
 -- `drill SEED POLLS`, and then nothing or `--trace`
 abbrev pub drill_for : (seed : ℕ) → Option ℕ → List (List ℕ) → Result Command ℕ
@@ -51,6 +61,7 @@ command_of (first ∷ words) =
     else if bytes_eq first (codes "decode") then decode_of words
     else if bytes_eq first (codes "pagetime") then alone Pagetime 2 words
     else if bytes_eq first (codes "agree") then alone Agree 2 words
+    else if bytes_eq first (codes "order") then ordering_of words
     else if bytes_eq first (codes "drill") then drill_of words
     else Err 1
 
@@ -60,14 +71,16 @@ reads (Replay times) = true
 reads (Decode what) = true
 reads Pagetime = true
 reads Agree = true
+reads (Order length) = true
 reads (Drill seed polls) = false
 reads (DrillTrace seed polls) = false
 
--- a day has at least so many polls, and no more than so many
+-- a lease isn't longer than the longest; a day has at least so many polls, and no more than so many
 abbrev pub IsAllowed : Command → Type 0
 IsAllowed (Replay times) = Unit {0}
 IsAllowed (Decode what) = Unit {0}
 IsAllowed Pagetime = Unit {0}
 IsAllowed Agree = Unit {0}
+IsAllowed (Order length) = length ≤ LONGEST_LEASE
 IsAllowed (Drill seed polls) = (FEWEST_DAY_POLLS ≤ polls) × (polls ≤ MOST_DAY_POLLS)
 IsAllowed (DrillTrace seed polls) = (FEWEST_DAY_POLLS ≤ polls) × (polls ≤ MOST_DAY_POLLS)

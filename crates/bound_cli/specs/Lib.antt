@@ -3,6 +3,8 @@ pub mod Command
 pub mod Premises
 pub mod Replay
 pub mod Drill
+pub mod Order
+pub mod OrderReport
 pub mod Output
 pub mod Serve
 pub mod Stream

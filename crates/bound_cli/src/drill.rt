@@ -7,10 +7,11 @@ ghost use Rattle.abstract_run.specs.Given.{CanRun};
 ghost use Rattle.bound_cli.specs.Drill.{drill_line, drill_report, summary_of};
 
 use crate::report::put_summary;
-use crate::whole_run::ran;
+use abstract_run::given;
 use clock_gate::{Memory, Trace};
 use drill_day::drill_trace;
 use std::alloc::{AllocError, Global};
+use step_core::{World, words_show};
 
 // Room for three lines.
 const ROOM: usize = 192;
@@ -27,10 +28,13 @@ fn put_summary_of(alloc: Global, text: &mut String, trace: &Trace) -> Result<(),
     requires { CanRun trace.now }
     ensures { OnOk result (string_bytes text.new ≡ string_bytes text.old ++ summary_of trace.now) }
 {
-    let world = match ran(alloc, trace) {
+    given(trace);
+    words_show();
+    let mut world = match World::new(alloc, trace) {
         Ok(world) => world,
         Err(Memory) => return Err(AllocError),
     };
+    world.run();
     put_summary(alloc, text, trace, world.events())
 }
 

@@ -125,8 +125,8 @@ fn total(totals: &Totals) -> Printed
     }
 }
 
-// The premises of a run with these events.
-fn premises_of(alloc: Global, trace: &Trace, events: &[Event]) -> Result<Premises, AllocError>
+/// The premises of a run with these events.
+pub fn premises_of(alloc: Global, trace: &Trace, events: &[Event]) -> Result<Premises, AllocError>
     requires few { length events.now ≤ MOST_EVENTS }
     requires can { CanRun trace.now }
     requires run { events.now ≡ (run_of trace.now).events }

@@ -1,11 +1,13 @@
 //! The command that the words of a command line name.
 ghost use Rattle.std.specs.Prelude.{◌≡◌, ◌≤◌, map, IfOk, IfSome};
 ghost use Rattle.std.specs.String.{string_bytes};
+ghost use Rattle.bound_order.specs.declared.lease.TheConstants.{LONGEST_LEASE};
 ghost use Rattle.drill_day.specs.declared.limits.TheConstants.{FEWEST_DAY_POLLS, MOST_DAY_POLLS};
-ghost use Rattle.bound_cli.specs.Command.{alone, command_of, decode_of, drill_for, drill_from, drill_of, replay_of, IsAllowed};
+ghost use Rattle.bound_cli.specs.Command.{alone, command_of, decode_of, drill_for, drill_from, drill_of, ordering_for, ordering_of, replay_of, IsAllowed};
 
 use crate::command::Command;
 use crate::times::Times;
+use bound_order::LONGEST_LEASE;
 use csv_records::number;
 use decode_text::What;
 use drill_day::{FEWEST_DAY_POLLS, MOST_DAY_POLLS};
@@ -55,6 +57,27 @@ fn decode_named(words: &[String]) -> Result<Command, u32>
             }
             Err(2)
         }
+    }
+}
+
+fn ordering_for(length: Option<u64>, words: &[String]) -> Result<Command, u32>
+    requires { IfSome length (λ length. length ≤ LONGEST_LEASE) }
+    ensures allowed { IfOk result IsAllowed }
+    ensures command { result ≡ ordering_for length (map string_bytes words.now) }
+{
+    let Some(length) = length else {
+        return Err(2);
+    };
+    alone(Command::Order { length }, 3, words)
+}
+
+fn ordering_named(words: &[String]) -> Result<Command, u32>
+    ensures allowed { IfOk result IsAllowed }
+    ensures command { result ≡ ordering_of (map string_bytes words.now) }
+{
+    match words {
+        [] => Err(2),
+        [length, others @ ..] => ordering_for(number(length.as_bytes(), 0, LONGEST_LEASE), others),
     }
 }
 
@@ -129,6 +152,9 @@ pub fn command_named(words: &[String]) -> Result<Command, u32>
             }
             if first.as_str() == "agree" {
                 return alone(Command::Agree, 2, others);
+            }
+            if first.as_str() == "order" {
+                return ordering_named(others);
             }
             if first.as_str() == "drill" {
                 return drill_named(others);

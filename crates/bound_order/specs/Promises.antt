@@ -1,11 +1,11 @@
 -- What the steps promise of true time.
-use Rattle.std.specs.Prelude.{◌≡◌, ◌≢◌, ℕ, ◌<◌, ◌≤◌, ℤ, pos, ◌≤ℤ◌, ◌<ℤ◌, List, Some, slice_get}
+use Rattle.std.specs.Prelude.{◌≡◌, ◌≢◌, ℕ, ◌<◌, ◌≤◌, ℤ, pos, ◌≤ℤ◌, ◌<ℤ◌, List, Some, IfSome, All, slice_get}
 use Rattle.interval_now.specs.declared.answers.Interval.{Interval}
 use Rattle.bound_order.specs.declared.told.Told.{Told}
 use Rattle.bound_order.specs.declared.waiting.Waiting.TheVariants.{Pass, Stamp, Done}
 use Rattle.bound_order.specs.declared.lease.Lease.TheVariants.{Grant, Act}
 use Rattle.bound_order.specs.declared.step.Step.{Step}
-use Rattle.bound_order.specs.Ordering.{trusted_of}
+use Rattle.bound_order.specs.Ordering.{IsNear, order_of, trusted_of}
 
 -- the answer at this place has this truth, which lies in its interval, and gave this step
 pub record IsTrueAt (told : List Told) (steps : List Step) (k : ℕ) (truth : ℕ) (gave : Step) : Type 0 where
@@ -61,3 +61,8 @@ pub record KeepsOrder (told : List Told) (steps : List Step) : Type 0 where
   pub stamps : StampsFollowTime told steps
   pub acts : ActsEndFirst told steps
   pub grants : GrantsComeLater told steps
+
+-- so it is of every list of answers whose intervals are near, and of every length of a lease
+abbrev pub TrueAnswersKeepOrder : Type 0
+TrueAnswersKeepOrder =
+    (length : ℕ) (told : List Told) → All (λ t. IfSome t.interval IsNear) told → AreTrue told → KeepsOrder told (order_of length told)

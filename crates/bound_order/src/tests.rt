@@ -1,4 +1,5 @@
-ghost use Rattle.std.specs.Prelude.{◌≡◌, Some, None};
+ghost use Rattle.std.specs.Prelude.{◌≡◌, ◌≤◌, Some, None};
+ghost use Rattle.bound_order.specs.Ordering.{IsTold};
 
 use crate::{LONGEST_LEASE, Lease, Step, Told, Waiting, order};
 use clock_gate::ClockStatus;
@@ -29,52 +30,25 @@ fn step(wait: Waiting, lease: Lease) -> Step {
     Step { wait, lease }
 }
 
+// An answer at the second moment.
+fn later(client: u32, call: u32, status: ClockStatus) -> Told
+    requires { (1 ≤ client) × (client ≤ 64) }
+    ensures { IsTold result }
+{
+    told(client, call, SECOND - 294_142, SECOND + 294_142, status)
+}
+
 #[test]
 fn a_second_answer_ends_the_wait_and_renews_the_lease(rt: HostRuntime) -> Result<(), Fail> {
     let alloc: Global = rt.alloc();
+    let synchronized = ClockStatus::Synchronized;
     let answers = [
-        told(
-            1,
-            1,
-            FIRST - 244_142,
-            FIRST + 244_142,
-            ClockStatus::Synchronized,
-        ),
-        told(
-            1,
-            2,
-            SECOND - 294_142,
-            SECOND + 294_142,
-            ClockStatus::Synchronized,
-        ),
-        told(
-            2,
-            1,
-            SECOND - 294_142,
-            SECOND + 294_142,
-            ClockStatus::FreeRunning,
-        ),
-        told(
-            1,
-            3,
-            SECOND - 294_142,
-            SECOND + 294_142,
-            ClockStatus::Synchronized,
-        ),
-        told(
-            1,
-            4,
-            SECOND - 294_142,
-            SECOND + 294_142,
-            ClockStatus::Unknown,
-        ),
-        told(
-            1,
-            5,
-            SECOND - 294_142,
-            SECOND + 294_142,
-            ClockStatus::Disrupted,
-        ),
+        told(1, 1, FIRST - 244_142, FIRST + 244_142, synchronized),
+        later(1, 2, synchronized),
+        later(2, 1, ClockStatus::FreeRunning),
+        later(1, 3, synchronized),
+        later(1, 4, ClockStatus::Unknown),
+        later(1, 5, ClockStatus::Disrupted),
         Told {
             client: 2,
             call: 2,
@@ -85,17 +59,14 @@ fn a_second_answer_ends_the_wait_and_renews_the_lease(rt: HostRuntime) -> Result
     let steps = order(alloc, answers.as_slice(), 1_000_000)
         .ok()
         .expect(&rt, "memory");
+    let stamp = Waiting::Stamp(FIRST + 244_142);
+    let done = Waiting::Done(FIRST + 244_142);
+    let again = Waiting::Stamp(SECOND + 294_142);
     let wanted = [
-        step(
-            Waiting::Stamp(FIRST + 244_142),
-            Lease::Grant(FIRST + 1_244_142),
-        ),
-        step(
-            Waiting::Done(FIRST + 244_142),
-            Lease::Grant(SECOND + 1_294_142),
-        ),
-        step(Waiting::Stamp(SECOND + 294_142), Lease::Deny),
-        step(Waiting::Stamp(SECOND + 294_142), Lease::Act),
+        step(stamp, Lease::Grant(FIRST + 1_244_142)),
+        step(done, Lease::Grant(SECOND + 1_294_142)),
+        step(again, Lease::Deny),
+        step(again, Lease::Act),
         step(Waiting::Pass, Lease::Untrusted),
         step(Waiting::Pass, Lease::Untrusted),
         step(Waiting::Pass, Lease::Untrusted),

@@ -1,0 +1,4 @@
+pub mod Lists
+pub mod Clients
+pub mod Events
+pub mod Told

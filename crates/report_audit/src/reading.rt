@@ -1,0 +1,72 @@
+//! Lines read from a report: the numbers that a line has, and whether a text begins with a line.
+ghost use Rattle.std.specs.Prelude.{◌≡◌, ◌≢◌, ◌≤◌, ◌<◌, ◌+◌, ◌^◌, ℕ, List, ◌++◌, slice_index, IfOk, IfSome, IfNone};
+ghost use Rattle.lawful_report.specs.Lines.{line_text};
+ghost use Rattle.report_audit.specs.Numbers.{from_digit, next_number, numbers_in};
+
+use crate::leading::leading_number;
+use clock_gate::Memory;
+use lawful_report::{Printed, print_line};
+use std::alloc::Global;
+
+/// What follows this line, where the text begins with it.
+pub fn after_line<'a>(
+    alloc: Global,
+    text: &'a [u8],
+    line: &Printed,
+) -> Result<Option<&'a [u8]>, Memory>
+    ensures found { IfOk result (λ rest. IfSome rest (λ later. text.now ≡ line_text line.now ++ later.now)) }
+    ensures other { IfOk result (λ rest. IfNone rest ((later : List ℕ) → text.now ≢ line_text line.now ++ later)) }
+{
+    let printed = print_line(alloc, line)?;
+    Ok(text.strip_prefix(printed.as_slice()))
+}
+
+fn from_digit(text: &[u8]) -> &[u8]
+    ensures { result.now ≡ from_digit text.now }
+{
+    let mut rest = text;
+    'letters: loop {
+        match rest {
+            [byte, later @ ..] if !byte.is_ascii_digit() => rest = later,
+            _ => return rest,
+        }
+    }
+}
+
+fn next_number(text: &[u8]) -> (u64, &[u8])
+    ensures { (result.0, result.1.now) ≡ next_number text.now }
+{
+    leading_number(from_digit(text))
+}
+
+/// The first six numbers of a text, wherever they stand; those of the line that it begins with are among them.
+pub fn six_numbers(text: &[u8]) -> [u64; 6]
+    ensures { result ≡ numbers_in 6 text.now }
+{
+    let (a, text) = next_number(text);
+    let (b, text) = next_number(text);
+    let (c, text) = next_number(text);
+    let (d, text) = next_number(text);
+    let (e, text) = next_number(text);
+    let (f, _) = next_number(text);
+    [a, b, c, d, e, f]
+}
+
+/// Three numbers of a text in a row, from the one at this place on; `None` exactly where one of them has more than 32 bits.
+pub fn three_at(text: &[u8], at: usize) -> Option<(u32, u32, u32)>
+    requires { at ≤ 3 }
+    ensures found { IfSome result (λ r. (r.0 ≡ slice_index (numbers_in 6 text.now) at) × (r.1 ≡ slice_index (numbers_in 6 text.now) (at + 1)) × (r.2 ≡ slice_index (numbers_in 6 text.now) (at + 2))) }
+    ensures large { IfNone result (slice_index (numbers_in 6 text.now) at < 2 ^ 32 → slice_index (numbers_in 6 text.now) (at + 1) < 2 ^ 32 → slice_index (numbers_in 6 text.now) (at + 2) < 2 ^ 32 → ⊥) }
+{
+    let numbers = six_numbers(text);
+    let Ok(first) = u32::try_from(numbers[at]) else {
+        return None;
+    };
+    let Ok(second) = u32::try_from(numbers[at + 1]) else {
+        return None;
+    };
+    let Ok(third) = u32::try_from(numbers[at + 2]) else {
+        return None;
+    };
+    Some((first, second, third))
+}

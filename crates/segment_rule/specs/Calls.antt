@@ -1,0 +1,72 @@
+-- A client's call, in hand and at its end.
+use Rattle.std.specs.Prelude.{◌≡◌, ◌≢◌, ℕ, ◌<◌, ◌≤◌, Bool, true, false, List, [], length, Option, Some, None, IfSome, is_some}
+use Rattle.clock_gate.specs.declared.act.Act.TheVariants.{End}
+use Rattle.clock_gate.specs.declared.clock_row.ClockRow.{ClockRow}
+use Rattle.clock_gate.specs.declared.clock_row.Reading.{Reading}
+use Rattle.clock_gate.specs.declared.limits.TheConstants.{MOST_HOST_ROWS}
+use Rattle.clock_gate.specs.Acts.{Wanted, replayed}
+use Rattle.clock_gate.specs.ClockRow.{reading_at}
+use Rattle.interval_now.specs.declared.answers.Answer.{Answer}
+use Rattle.interval_now.specs.declared.stage.Stage.{Stage}
+use Rattle.interval_now.specs.declared.stage.Stage.TheVariants.{Segment, Clock, Page, Done}
+use Rattle.interval_now.specs.Call.{Call, IsCall, started_call, act_of, given}
+use Rattle.interval_now.specs.CallRun.{CallCameTo}
+use Rattle.atomic_table.specs.Seated.{TableId}
+use Rattle.segment_views.specs.Views.{SeatView}
+use Rattle.segment_views.specs.Shown.{touches_of, IsSoundCall}
+
+-- the reading that a call has taken
+abbrev pub reading_taken : Stage → Option Reading
+reading_taken (Segment read) = None
+reading_taken (Clock generation rec) = None
+reading_taken (Page generation rec reading read) = Some reading
+reading_taken (Done answer) = None
+
+-- the row that was read is the same still
+abbrev pub Agrees : List ClockRow → Option Reading → Type 0
+Agrees clock taken = IfSome taken (λ r. reading_at clock r.row ≡ r)
+
+-- what a stage knows of the view: a segment try in hand began with a record that is known, and a page try is of a page
+abbrev pub Tied : Stage → SeatView → Type 0
+Tied (Segment read) v = read.values ≢ [] → 0 < length v.seen.history
+Tied (Clock generation rec) v = Unit {0}
+Tied (Page generation rec reading read) v = is_some v.setup.page ≡ true
+Tied (Done answer) v = Unit {0}
+
+-- the steps of the view are those of the call, by this clock
+abbrev pub Replays : List ClockRow → ℕ → Call → SeatView → Type 0
+Replays clock tries call v =
+    Wanted act_of (given clock) (started_call tries (is_some v.setup.page)) (touches_of v.steps)
+    × (replayed act_of (given clock) (started_call tries (is_some v.setup.page)) (touches_of v.steps) ≡ call)
+
+-- a call that is under way, from its first step on
+pub record Going (tries : ℕ) (call : Call) (v : SeatView) : Type 0 where
+  pub is : IsCall call
+  pub asks : act_of call ≢ End
+  pub same_tries : call.tries ≡ tries
+  pub support : call.support ≡ is_some v.setup.page
+  pub tied : Tied call.stage v
+  pub ran : IsSoundCall v
+  pub replays : (clock : List ClockRow) → Agrees clock (reading_taken call.stage) → Replays clock tries call v
+
+-- the machine of the call in hand
+pub record Holds (in_hand begun : Bool) (tries : ℕ) (call : Call) (v : SeatView) : Type 0 where
+  pub rows : v.setup.rows ≤ MOST_HOST_ROWS
+  pub fresh : in_hand ≡ true → begun ≡ false → (call ≡ started_call tries (is_some v.setup.page)) × IsCall call
+  pub going : in_hand ≡ true → begun ≡ true → Going tries call v
+
+-- a call of so many tries came to this answer: it is that of the call's own steps, and what they show
+pub record Nows (clock : List ClockRow) (tries : ℕ) (answer : Answer) (v : SeatView) : Type 0 where
+  pub came : CallCameTo clock tries (is_some v.setup.page) (touches_of v.steps) answer
+  pub ran : IsSoundCall v
+
+pub record ClientState : Type 0 where
+  pub table : TableId
+  pub view : SeatView
+  pub in_hand : Bool
+  pub begun : Bool
+  pub tries : ℕ
+  pub reading : Option Reading
+
+abbrev pub client_state : TableId → SeatView → Bool → Bool → ℕ → Stage → ClientState
+client_state t v h b n s = record { table = t; view = v; in_hand = h; begun = b; tries = n; reading = reading_taken s }

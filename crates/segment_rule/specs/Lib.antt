@@ -1,0 +1,5 @@
+pub mod Ruled
+pub mod Calls
+pub mod Opens
+pub mod Polls
+pub mod Hosts

@@ -1,0 +1,97 @@
+-- The daemon's poll: its stores, and what a poll leaves.
+use Rattle.std.specs.Prelude.{◌≡◌, ℕ, ◌+◌, ◌*◌, ◌%◌, ◌<◌, ◌≤◌, ◌==◌, Bool, true, false, List, [], ◌∷◌, ◌++◌, slice_index, Option, Some, unwrap_or}
+use Rattle.clock_gate.specs.declared.clock_row.ClockRow.{ClockRow}
+use Rattle.clock_gate.specs.Acts.{Wanted, replayed}
+use Rattle.generation_word.specs.Header.{word1_of, generation_in}
+use Rattle.segment_layout.specs.declared.publication.Publication.{Publication}
+use Rattle.segment_layout.specs.History.{History}
+use Rattle.segment_layout.specs.Record.{KeepsBounds}
+use Rattle.segment_layout.specs.Words.{record_words}
+use Rattle.vmclock_page.specs.Host.{count_of}
+use Rattle.vmclock_page.specs.Counting.{page_number_of}
+use Rattle.status_machine.specs.declared.daemon.Daemon.{Daemon}
+use Rattle.status_machine.specs.declared.heard.Heard.{Heard}
+use Rattle.segment_run.specs.SegmentRun.{number_at, number_shown, no_publication}
+use Rattle.segment_views.specs.Views.{SeatView, point_of}
+use Rattle.segment_views.specs.Steps.{Tells, TellsDaemonPart, HasMagic, update_begun, update_filled, update_ended, calls_of}
+use Rattle.segment_views.specs.Shown.{touches_of, IsSoundCall, PointsFollow}
+use Rattle.writer_reopen.specs.declared.order.Order.{Order}
+use Rattle.writer_reopen.specs.declared.polled.Polled.{Polled}
+use Rattle.writer_reopen.specs.declared.polled.Polled.TheVariants.{Published, Skipped, Stopped}
+use Rattle.writer_reopen.specs.PollMachine.{Polling, new_polling, polling_act, polling_given, polling_end, entry_of}
+use Rattle.segment_rule.specs.Ruled.{Either}
+use Rattle.segment_rule.specs.Opens.{OpenAt}
+
+-- ---- one store
+
+-- what is published, where the machine has come to its stores
+abbrev pub entry_in : Polling → Publication
+entry_in p = unwrap_or (entry_of p) no_publication
+
+-- a store of a publication tells of what kind it is: the odd number, one of its words, or the even number
+abbrev pub TellsPoll : Publication → ℕ → Tells
+TellsPoll e i v found left w =
+    Either (i == 1) (Either (generation_in left % 2 == 1) (TellsDaemonPart (update_begun e) 1 v found left w) (TellsDaemonPart update_ended 1 v found left w))
+    (TellsDaemonPart (update_filled i) i v found left w)
+
+abbrev pub MayPoll : Publication → ℕ → ℕ → SeatView → Type 0
+MayPoll e i n v =
+    Either (i == 1)
+    (Either (generation_in n % 2 == 1)
+    (HasMagic v.daemon_part × (n ≡ word1_of v.setup.layout (number_at v.daemon_part.segment v.daemon_part.segment.position + 1)) × KeepsBounds e.rec.as_of e.rec.void_after e.rec.bound e.rec.drift
+    × (e.replied ≤ v.seen.rows) × (2 * page_number_of (count_of v.setup.page) e.sequence ≤ v.seen.page_point))
+    ((v.daemon_part.hand.stores ≡ 9) × (n ≡ word1_of v.setup.layout (number_at v.daemon_part.segment (v.daemon_part.segment.position + 1)))))
+    ((2 ≤ i) × (i < 10) × (0 < v.daemon_part.hand.stores) × (v.daemon_part.hand.stores + 1 ≡ i) × (n ≡ slice_index (record_words 0 v.daemon_part.hand.publication.rec) i))
+
+-- ---- a poll
+
+-- what the machine of a poll begins with on a seat with this view: the number that word 1 shows among it
+abbrev pub order_for : SeatView → Daemon → (number : ℕ) → Heard → (stop : Option ℕ) → (tries : ℕ) → Order
+order_for v daemon number heard stop tries =
+    record { daemon = daemon; layout = v.setup.layout; generation = number_shown v.daemon_part.segment; number = number; heard = heard; stop = stop; tries = tries }
+
+-- the history after a poll: a finished publication is appended, and nothing else of it changes
+abbrev pub history_after : Polled → History → History
+history_after (Published daemon publication) history = history ++ publication ∷ []
+history_after (Skipped first last) history = history
+history_after (Stopped stores) history = history
+
+-- the generation of word 1 after a poll that began at this one and goes on
+abbrev pub next_generation : (generation : ℕ) → Polled → ℕ
+next_generation generation (Published daemon publication) = publication.generation
+next_generation generation (Skipped first last) = generation
+next_generation generation (Stopped stores) = generation
+
+abbrev pub was_skipped : Polled → Bool
+was_skipped (Published daemon publication) = false
+was_skipped (Skipped first last) = true
+was_skipped (Stopped stores) = false
+
+-- so it has it, and the daemon stops only where it was told to
+abbrev pub OpenAfter : (stop : Option ℕ) → (generation : ℕ) → Polled → SeatView → Type 0
+OpenAfter stop generation (Published daemon publication) w = OpenAt publication.generation w
+OpenAfter stop generation (Skipped first last) w = OpenAt generation w
+OpenAfter stop generation (Stopped stores) w = stop ≡ Some stores
+
+-- a seat that was told to stop stays open only where the poll was skipped
+abbrev pub IsOpenAfter : Polled → Bool → Type 0
+IsOpenAfter (Published daemon publication) is_open = is_open ≡ false
+IsOpenAfter (Skipped first last) is_open = is_open ≡ true
+IsOpenAfter (Stopped stores) is_open = is_open ≡ false
+
+-- a daemon that is handed on has the support that it had
+abbrev pub SupportAfter : Bool → Polled → Type 0
+SupportAfter support (Published daemon publication) = daemon.support ≡ support
+SupportAfter support (Skipped first last) = Unit {0}
+SupportAfter support (Stopped stores) = Unit {0}
+
+-- a poll of this order: it adds a call, whose steps are those of the machine for the values that it loaded and stored, and its
+-- answer is the machine's
+pub record Polls (clock : List ClockRow) (order : Order) (v : SeatView) (polled : Polled) (w : SeatView) : Type 0 where
+  pub setup : w.setup ≡ v.setup
+  pub calls : w.calls ≡ calls_of v
+  pub steps : Wanted polling_act (polling_given clock) (new_polling order) (touches_of w.steps)
+  pub answer : polling_end (replayed polling_act (polling_given clock) (new_polling order) (touches_of w.steps)) ≡ Some polled
+  pub sound : IsSoundCall w
+  pub points : PointsFollow (point_of v.daemon_part.segment) w.steps (point_of w.daemon_part.segment)
+  pub history : w.daemon_part.segment.history ≡ history_after polled v.daemon_part.segment.history

@@ -1,0 +1,19 @@
+//! The 24 shared words under the rule of `segment_views`, and the seats that step on them.
+//!
+//! `HostTable::new` makes the table and the seats of the host, the daemon and a client. Each call runs the step machine that also
+//! `replay` runs, one step of the table for each of its acts, in whatever order threads take them; no call takes memory or waits.
+//! What a call leaves is told of the view of its own seat: the host's rows and pages, the daemon's history and point, and of daemon
+//! and clients all calls with their loads and stores.
+#![tactic(auto)]
+
+mod client;
+mod daemon;
+mod host;
+mod plays;
+mod table;
+
+pub use client::ClientSeat;
+pub use daemon::DaemonSeat;
+pub use host::HostSeat;
+pub use plays::{Announced, AnnouncedPage, WordsRule};
+pub use table::HostTable;
