@@ -26,7 +26,7 @@ use Rattle.abstract_run.specs.RunPage.{PageAfter, Looks, Saw, Missed, page_load,
 use Rattle.abstract_run.specs.RunDaemon as run_daemon
 use Rattle.abstract_run.specs.RunDaemon.{Life, Asked, Storing, Work, Resting, Opening, Asking, Looking, Taking, Writing, DaemonRun, DaemonTurn, daemon_turn, marked_by}
 use Rattle.status_machine.specs.Base.{base_number}
-use Rattle.abstract_run.specs.RunFacts.{EndedAs, told_by, AllEarlier, given_by, HasBase, AllBased}
+use Rattle.abstract_run.specs.RunFacts.{PublishedEvent, told_by, AllEarlier, given_by, HasBase, AllBased}
 use Rattle.abstract_run.proofs.RunFactsBases.{AreSame, has_same, BaseHolds, base_same, FitsBase, based_of, has_later}
 use Rattle.abstract_run.proofs.RunFactsDaemon.{next_number, WorkFits, DaemonHolds, opening_some}
 
@@ -80,7 +80,7 @@ start_same trace past more number (Kept generation rec) same is = λ some. has_s
 published_same : (past more : List Event) (position : ℕ) (publication : Publication) (marked_at replied_at : ℕ) → AreSame past more
     → AreSame (Published position publication marked_at replied_at ∷ past) (Published position publication marked_at replied_at ∷ more)
 published_same past more position publication marked_at replied_at same =
-    λ n. ap (λ (o : Option EndedAs). if publication.poll == n then Some (record { position = position; publication = publication; marked_at = marked_at; replied_at = replied_at }) else o) (same n)
+    λ n. ap (λ (o : Option PublishedEvent). if publication.poll == n then Some (record { position = position; publication = publication; marked_at = marked_at; replied_at = replied_at }) else o) (same n)
 
 writing_same : (trace : Trace) (past more : List Event) (publication : Publication) (marked_at replied_at : ℕ) (life : Option Life) → AreSame past more
     → WritingBased trace past publication marked_at replied_at life → WritingBased trace more publication marked_at replied_at life
@@ -266,7 +266,7 @@ module _ (trace : Trace) (past : List Event) where
   fits_by publication None mono number as_of bound = number
   fits_by publication (Some base) mono number as_of bound = (sym number, sym as_of, sym bound)
 
-  own_found : (test : Bool) (one : EndedAs) (rest : Option EndedAs) → test ≡ true → (if test then Some one else rest) ≡ Some one
+  own_found : (test : Bool) (one : PublishedEvent) (rest : Option PublishedEvent) → test ≡ true → (if test then Some one else rest) ≡ Some one
   own_found test one rest on = rw on refl
 
   gives_own : (position : ℕ) (publication : Publication) (marked_at replied_at : ℕ) (given : Option Base) → given_by trace publication ≡ given
@@ -275,7 +275,7 @@ module _ (trace : Trace) (past : List Event) where
   gives_own position publication marked_at replied_at (Some base) gives numbered fits =
       let same : base.poll ≡ publication.poll = numbered base refl in
       let on : (publication.poll == base.poll) ≡ true = grind (arith, nat_tests, same) in
-      let one : EndedAs = record { position = position; publication = publication; marked_at = marked_at; replied_at = replied_at } in
+      let one : PublishedEvent = record { position = position; publication = publication; marked_at = marked_at; replied_at = replied_at } in
       λ some. record {
         told = one;
         found = own_found (publication.poll == base.poll) one (told_by base.poll past) on;

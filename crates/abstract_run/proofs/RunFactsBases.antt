@@ -8,7 +8,7 @@ use Rattle.segment_layout.specs.declared.publication.Publication.{Publication}
 use Rattle.status_machine.specs.declared.base.Base.{Base}
 use Rattle.abstract_run.specs.declared.event.Event.{Event}
 use Rattle.abstract_run.specs.declared.event.Event.TheVariants.{Opened, Moved, Published, Skipped, Stopped, Answered}
-use Rattle.abstract_run.specs.RunFacts.{EndedAs, told_by, AllEarlier, given_by, HasBase}
+use Rattle.abstract_run.specs.RunFacts.{PublishedEvent, told_by, AllEarlier, given_by, HasBase}
 
 -- ---- look-ups by poll numbers
 
@@ -19,10 +19,10 @@ unfoldable pub has_same : (trace : Trace) (past more : List Event) (base : ℕ) 
 has_same trace past more base as_of bound same has =
     record { told = has.told; found = same base ∙ has.found; own = has.own; from = has.from; same_bound = has.same_bound; gives = has.gives }
 
-none_is_some : (one : EndedAs) → None ≢ Some one
+none_is_some : (one : PublishedEvent) → None ≢ Some one
 none_is_some one is = cc is
 
-below_by : (poll number n : ℕ) (test : Bool) (one told : EndedAs) (rest : Option EndedAs) → (number == n) ≡ test → number < poll → (rest ≡ Some told → n < poll)
+below_by : (poll number n : ℕ) (test : Bool) (one told : PublishedEvent) (rest : Option PublishedEvent) → (number == n) ≡ test → number < poll → (rest ≡ Some told → n < poll)
     → (if test then Some one else rest) ≡ Some told → n < poll
 below_by poll number n true one told rest is low later found = elim (cases_eq number n) [
   | inl same ↦ omega (arith, same, low)
@@ -31,7 +31,7 @@ below_by poll number n true one told rest is low later found = elim (cases_eq nu
 below_by poll number n false one told rest is low later found = later found
 
 -- a poll that was published is earlier than the next
-pub told_below : (position poll replied_at n : ℕ) (past : List Event) (told : EndedAs) → AllEarlier position poll replied_at past → told_by n past ≡ Some told → n < poll
+pub told_below : (position poll replied_at n : ℕ) (past : List Event) (told : PublishedEvent) → AllEarlier position poll replied_at past → told_by n past ≡ Some told → n < poll
 told_below p q r n [] told h found = absurd (cc found)
 told_below p q r n (Opened which start ∷ past) told h found = told_below p q r n past told h found
 told_below p q r n (Moved which to generation ∷ past) told h found = told_below p q r n past told h.1 found
@@ -67,7 +67,7 @@ based_of trace past publication (Some base) fits holds some =
     (subst (λ (a : ℤ). HasBase trace past base.poll a publication.rec.bound) fits.1 (subst (λ (b : ℤ). HasBase trace past base.poll base.as_of b) fits.2 has))
 
 -- an earlier poll's publication is not hidden by a later one
-pub other_found : (test : Bool) (one told : EndedAs) (rest : Option EndedAs) → test ≡ false → rest ≡ Some told → (if test then Some one else rest) ≡ Some told
+pub other_found : (test : Bool) (one told : PublishedEvent) (rest : Option PublishedEvent) → test ≡ false → rest ≡ Some told → (if test then Some one else rest) ≡ Some told
 other_found test one told rest off found = rw off found
 
 unfoldable pub has_later : (trace : Trace) (past : List Event) (position : ℕ) (publication : Publication) (marked_at replied_at : ℕ) (least done base : ℕ) (as_of bound : ℤ)
@@ -84,7 +84,7 @@ has_later trace past position publication marked_at replied_at least done base a
       gives = has.gives;
     }
 
-own_found : (test : Bool) (one : EndedAs) (rest : Option EndedAs) → test ≡ true → (if test then Some one else rest) ≡ Some one
+own_found : (test : Bool) (one : PublishedEvent) (rest : Option PublishedEvent) → test ≡ true → (if test then Some one else rest) ≡ Some one
 own_found test one rest on = rw on refl
 
 -- a poll that gives its own base is it
@@ -93,5 +93,5 @@ pub has_own : (trace : Trace) (past : List Event) (position : ℕ) (publication 
     → HasBase trace (Published position publication marked_at replied_at ∷ past) publication.poll publication.rec.as_of publication.rec.bound
 has_own trace past position publication marked_at replied_at own gives =
     let on : (publication.poll == publication.poll) ≡ true = grind (arith, nat_tests) in
-    let one : EndedAs = record { position = position; publication = publication; marked_at = marked_at; replied_at = replied_at } in
+    let one : PublishedEvent = record { position = position; publication = publication; marked_at = marked_at; replied_at = replied_at } in
     record { told = one; found = own_found (publication.poll == publication.poll) one (told_by publication.poll past) on; own = own; from = refl; same_bound = refl; gives = gives }

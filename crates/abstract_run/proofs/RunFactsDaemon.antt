@@ -65,7 +65,7 @@ pub record Grows (trace : Trace) (base position : ℕ) (past : List Event) (late
 
 -- ---- a turn
 
-module _ (trace : Trace) (base position : ℕ) (is_writing : Bool) (done : ℕ) (past : List Event) (high : done ≤ length trace.host) where
+module _ (trace : Trace) (base position : ℕ) (is_writing : Bool) (done : ℕ) (past : List Event) (has_done : (0 < done) × (done ≤ length trace.host)) where
   pub record TurnTells (next : DaemonTurn) : Type 0 where
     pub holds : DaemonHolds trace next.segment.base next.segment.position next.segment.is_writing done next.daemon.polled next.daemon.work (reverse next.events ++ past)
     pub grows : Grows trace base position past next.segment.base next.segment.position (reverse next.events ++ past)
@@ -236,6 +236,7 @@ module _ (trace : Trace) (base position : ℕ) (is_writing : Bool) (done : ℕ) 
       let stays = is.stays in
       let numbered = fits.numbered in
       let taken = fits.taken in
+      let high = has_done.1 in
       let one : Stands trace segment.base (segment.position + 1) false done (Published (segment.position + 1) publication marked_at replied_at ∷ past) =
       stands_published trace segment.base segment.position segment.is_writing done past publication marked_at replied_at fits.taken is.stands in
       let earlier : AllEarlier (segment.position + 1 + 1) (daemon.polled + 1) done (Published (segment.position + 1) publication marked_at replied_at ∷ past) =
@@ -309,7 +310,7 @@ module _ (trace : Trace) (base position : ℕ) (is_writing : Bool) (done : ℕ) 
   -- ---- a poll
 
   asked_more : (row low more : ℕ) → low ≤ more → IsAsked trace row low → IsAsked trace row more
-  asked_more row low more le is = let before = is.before in record { asked_at = is.asked_at; read = is.read; before = omega (arith, le, before) }
+  asked_more row low more le is = let before = is.before in record { asked_at = is.asked_at; some = is.some; read = is.read; before = omega (arith, le, before) }
 
   marked_bounds : (is_marker : Bool) (before : ℕ) → before ≤ done → (before ≤ marked_by is_marker done before) × (marked_by is_marker done before ≤ done)
   marked_bounds true before le = (le, omega arith)
@@ -346,10 +347,10 @@ module _ (trace : Trace) (base position : ℕ) (is_writing : Bool) (done : ℕ) 
   ask_tells : (segment : SegmentRun) (daemon : DaemonRun) (page : Option (List ℕ)) → Leaves daemon.polled segment → AllTell trace past
       → TurnTells (run_daemon.ask_by trace segment daemon (clocks_at trace.host done) done page)
   ask_tells segment daemon None is tells =
-      told_silent daemon.polled segment (record daemon { work = Taking _ }) is refl tells (record { asked_at = done; read = refl; before = omega arith }, omega arith)
+      told_silent daemon.polled segment (record daemon { work = Taking _ }) is refl tells (record { asked_at = done; some = has_done.0; read = refl; before = omega arith }, omega arith)
   ask_tells segment daemon (Some page) is tells =
       told_silent daemon.polled segment (record daemon { work = Looking (clocks_at trace.host done) (run_page.page_reading trace.tries) done }) is refl tells
-      (record { asked_at = done; read = refl; before = omega arith }, omega arith)
+      (record { asked_at = done; some = has_done.0; read = refl; before = omega arith }, omega arith)
 
 -- ---- a turn of the daemon
 
@@ -360,26 +361,26 @@ opening_some (Torn generation) false = omega arith
 opening_some (Kept generation rec) true = omega arith
 opening_some (Kept generation rec) false = omega arith
 
-module _ (trace : Trace) (host : HostRun) (segment : SegmentRun) (daemon : DaemonRun) (past : List Event) (high : host.done ≤ length trace.host)
+module _ (trace : Trace) (host : HostRun) (segment : SegmentRun) (daemon : DaemonRun) (past : List Event) (has_done : (0 < host.done) × (host.done ≤ length trace.host))
     (h : DaemonHolds trace segment.base segment.position segment.is_writing host.done daemon.polled daemon.work past) where
   abbrev Tells : DaemonTurn → Type 0
-  Tells next = TurnTells trace segment.base segment.position segment.is_writing host.done past high next
+  Tells next = TurnTells trace segment.base segment.position segment.is_writing host.done past has_done next
 
-  stays_so : (number : ℕ) → AllEarlier (segment.position + 1) number host.done past → Leaves trace segment.base segment.position segment.is_writing host.done past high number segment
+  stays_so : (number : ℕ) → AllEarlier (segment.position + 1) number host.done past → Leaves trace segment.base segment.position segment.is_writing host.done past has_done number segment
   stays_so number earlier = record { stands = h.stands; earlier = earlier; same = refl; stays = refl }
 
   idle_tells : Tells (record { segment = segment; daemon = daemon; events = [] })
   idle_tells =
-      told_silent trace segment.base segment.position segment.is_writing host.done past high (next_number daemon.polled daemon.work) segment daemon
+      told_silent trace segment.base segment.position segment.is_writing host.done past has_done (next_number daemon.polled daemon.work) segment daemon
       (stays_so (next_number daemon.polled daemon.work) h.earlier) refl h.tells h.fits
 
   begins_tell : (life : Option Life) → AllEarlier (segment.position + 1) (daemon.polled + 1) host.done past
       → Tells (run_daemon.poll_begins trace host segment (record daemon { polled = daemon.polled + 1 }) life)
   begins_tell None earlier =
-      opening_tells trace segment.base segment.position segment.is_writing host.done past high segment (record daemon { polled = daemon.polled + 1 })
+      opening_tells trace segment.base segment.position segment.is_writing host.done past has_done segment (record daemon { polled = daemon.polled + 1 })
       (start_found segment) (is_old segment) 0 (stays_so (daemon.polled + 1) earlier) h.tells (opening_some (start_found segment) (is_old segment))
   begins_tell (Some life) earlier =
-      ask_tells trace segment.base segment.position segment.is_writing host.done past high segment (record daemon { polled = daemon.polled + 1 }) trace.page
+      ask_tells trace segment.base segment.position segment.is_writing host.done past has_done segment (record daemon { polled = daemon.polled + 1 }) trace.page
       (stays_so (daemon.polled + 1) earlier) h.tells
 
   next_tells : (poll : Option PollRow) → AllEarlier (segment.position + 1) (daemon.polled + 1) host.done past → Tells (run_daemon.next_poll trace host segment daemon poll)
@@ -390,29 +391,29 @@ module _ (trace : Trace) (host : HostRun) (segment : SegmentRun) (daemon : Daemo
       → Tells (run_daemon.taken trace segment daemon asked (run_daemon.poll_of trace daemon asked) (clocks_at trace.host host.done) host.done life)
   takes_tell asked None earlier fits before = idle_tells
   takes_tell asked (Some life) earlier fits before =
-      taken_tells trace segment.base segment.position segment.is_writing host.done past high segment daemon asked (run_daemon.poll_of trace daemon asked) life refl
+      taken_tells trace segment.base segment.position segment.is_writing host.done past has_done segment daemon asked (run_daemon.poll_of trace daemon asked) life refl
       (stays_so daemon.polled earlier) h.tells fits before
 
   looks_tell : (row marked_at : ℕ) (reading : PageReading) → AllEarlier (segment.position + 1) daemon.polled host.done past → IsAsked trace row marked_at → marked_at ≤ host.done
       → Tells (run_daemon.daemon_turn_by trace host segment daemon (Looking row reading marked_at))
   looks_tell row marked_at reading earlier fits before =
-      let bounds = marked_bounds trace segment.base segment.position segment.is_writing host.done past high (is_marker_next reading.try) marked_at before in
-      look_tells trace segment.base segment.position segment.is_writing host.done past high segment daemon row (marked_by (is_marker_next reading.try) host.done marked_at)
+      let bounds = marked_bounds trace segment.base segment.position segment.is_writing host.done past has_done (is_marker_next reading.try) marked_at before in
+      look_tells trace segment.base segment.position segment.is_writing host.done past has_done segment daemon row (marked_by (is_marker_next reading.try) host.done marked_at)
       (page_load (count_of trace.page) (page_shown trace.host host) reading) (stays_so daemon.polled earlier) h.tells
-      (asked_more trace segment.base segment.position segment.is_writing host.done past high row marked_at (marked_by (is_marker_next reading.try) host.done marked_at) bounds.0 fits) bounds.1
+      (asked_more trace segment.base segment.position segment.is_writing host.done past has_done row marked_at (marked_by (is_marker_next reading.try) host.done marked_at) bounds.0 fits) bounds.1
 
   work_tells : (work : Work) → WorkFits trace segment.position host.done daemon.polled past work → AllEarlier (segment.position + 1) (next_number daemon.polled work) host.done past
       → Tells (run_daemon.daemon_turn_by trace host segment daemon work)
   work_tells Resting fits earlier = next_tells (slice_get trace.polls daemon.polled) earlier
   work_tells (Opening begins old steps) fits earlier =
-      opening_tells trace segment.base segment.position segment.is_writing host.done past high segment daemon begins old steps (stays_so daemon.polled earlier) h.tells fits
+      opening_tells trace segment.base segment.position segment.is_writing host.done past has_done segment daemon begins old steps (stays_so daemon.polled earlier) h.tells fits
   work_tells Asking fits earlier =
-      ask_tells trace segment.base segment.position segment.is_writing host.done past high segment daemon trace.page (stays_so daemon.polled earlier) h.tells
+      ask_tells trace segment.base segment.position segment.is_writing host.done past has_done segment daemon trace.page (stays_so daemon.polled earlier) h.tells
   work_tells (Looking row reading marked_at) fits earlier = looks_tell row marked_at reading earlier fits.0 fits.1
   work_tells (Taking asked) fits earlier = takes_tell asked daemon.life earlier fits.0 fits.1
   work_tells (Writing storing) fits earlier =
-      store_tells trace segment.base segment.position segment.is_writing host.done past high segment daemon storing.publication storing.stores storing.marked_at storing.replied_at
+      store_tells trace segment.base segment.position segment.is_writing host.done past has_done segment daemon storing.publication storing.stores storing.marked_at storing.replied_at
       (stays_so daemon.polled earlier) h.tells fits
 
-  pub daemon_tells : TurnTells trace segment.base segment.position segment.is_writing host.done past high (daemon_turn trace host segment daemon)
+  pub daemon_tells : TurnTells trace segment.base segment.position segment.is_writing host.done past has_done (daemon_turn trace host segment daemon)
   daemon_tells = work_tells daemon.work h.fits h.earlier

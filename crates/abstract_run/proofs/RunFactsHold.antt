@@ -62,7 +62,7 @@ none_begun trace base position done past (number ∷ numbers) = (tt, none_begun 
 -- ---- a run
 
 pub record Holds (trace : Trace) (host : HostRun) (segment : SegmentRun) (daemon : DaemonRun) (clients : List ClientRun) (past : List Event) : Type 0 where
-  pub high : host.done ≤ length trace.host
+  pub has_done : (0 < host.done) × (host.done ≤ length trace.host)
   pub daemon_holds : DaemonHolds trace segment.base segment.position segment.is_writing host.done daemon.polled daemon.work past
   pub clients_fit : AllFit trace segment.base segment.position host.done past clients
 
@@ -100,8 +100,9 @@ work_later trace position done more polled past (Writing storing) le fits =
 host_holds : (trace : Trace) (host next : HostRun) (segment : SegmentRun) (daemon : DaemonRun) (clients : List ClientRun) (past : List Event) → host.done ≤ next.done → next.done ≤ length trace.host
     → Holds trace host segment daemon clients past → Holds trace next segment daemon clients past
 host_holds trace host next segment daemon clients past le high h =
+    let some = h.has_done.0 in
     record {
-      high = high;
+      has_done = (omega (arith, le, some), high);
       daemon_holds = record {
         stands = stands_later trace segment.base segment.position segment.is_writing host.done next.done past le h.daemon_holds.stands;
         earlier = earlier_more (segment.position + 1) (next_number daemon.polled daemon.work) host.done (segment.position + 1) (next_number daemon.polled daemon.work) next.done past
@@ -115,13 +116,13 @@ host_holds trace host next segment daemon clients past le high h =
 
 -- ---- a turn of the daemon
 
-daemon_next : (trace : Trace) (run : Run) (next : DaemonTurn) (high : run.host.done ≤ length trace.host)
-    → TurnTells trace run.segment.base run.segment.position run.segment.is_writing run.host.done (reverse run.events) high next
+daemon_next : (trace : Trace) (run : Run) (next : DaemonTurn) (has_done : (0 < run.host.done) × (run.host.done ≤ length trace.host))
+    → TurnTells trace run.segment.base run.segment.position run.segment.is_writing run.host.done (reverse run.events) has_done next
     → RunHolds trace run → RunHolds trace (with_daemon run next)
-daemon_next trace run next high is h =
+daemon_next trace run next has_done is h =
     subst (Holds trace run.host next.segment next.daemon run.clients) (sym (reverse-append run.events next.events))
     (record {
-      high = high;
+      has_done = has_done;
       daemon_holds = is.holds;
       clients_fit = all_more trace run.segment.base run.segment.position run.host.done (reverse run.events) next.segment.base next.segment.position run.host.done (reverse next.events ++ reverse run.events)
           run.clients (omega arith) is.grows h.clients_fit;
@@ -140,13 +141,13 @@ work_answered trace position done polled client call answered past (Writing stor
     record { asked = fits.asked; marked = fits.marked; replied = fits.replied; taken = fits.taken; numbered = fits.numbered; earlier = fits.earlier }
 
 answer_holds : (trace : Trace) (host : HostRun) (segment : SegmentRun) (daemon : DaemonRun) (clients : List ClientRun) (past : List Event) (client call : ℕ) (answered : Option Answered)
-    (top : host.done ≤ length trace.host) (h : DaemonHolds trace segment.base segment.position segment.is_writing host.done daemon.polled daemon.work past)
-    → AnswerTells trace host segment past top h.stands answered → AllFit trace segment.base segment.position host.done past clients
+    (has_done : (0 < host.done) × (host.done ≤ length trace.host)) (h : DaemonHolds trace segment.base segment.position segment.is_writing host.done daemon.polled daemon.work past)
+    → AnswerTells trace host segment past has_done.1 h.stands answered → AllFit trace segment.base segment.position host.done past clients
     → Holds trace host segment daemon clients (reverse (answer_events client call answered) ++ past)
-answer_holds trace host segment daemon clients past client call None top h tells fit = record { high = top; daemon_holds = h; clients_fit = fit }
-answer_holds trace host segment daemon clients past client call (Some answered) top h tells fit =
+answer_holds trace host segment daemon clients past client call None has_done h tells fit = record { has_done = has_done; daemon_holds = h; clients_fit = fit }
+answer_holds trace host segment daemon clients past client call (Some answered) has_done h tells fit =
     record {
-      high = top;
+      has_done = has_done;
       daemon_holds = record {
         stands = record { within = h.stands.within; readable = h.stands.readable; few = h.stands.few; stood = h.stands.stood };
         earlier = h.earlier;
@@ -161,10 +162,10 @@ client_next : (trace : Trace) (run : Run) (client : ℕ) (old : ClientRun) (h : 
     → RunHolds trace (with_client run client (run_client.client_turn trace run.host run.segment old))
 client_next trace run client old h fits =
     let next = run_client.client_turn trace run.host run.segment old in
-    let is : ClientTells trace run.host run.segment (reverse run.events) h.high h.daemon_holds.stands next =
-    client_tells trace run.host run.segment (reverse run.events) h.high h.daemon_holds.stands old fits in
+    let is : ClientTells trace run.host run.segment (reverse run.events) h.has_done.1 h.daemon_holds.stands next =
+    client_tells trace run.host run.segment (reverse run.events) h.has_done.1 h.daemon_holds.stands old fits in
     subst (Holds trace run.host run.segment run.daemon (slice_set run.clients (client - 1) next.client)) (sym (reverse-append run.events (answer_events client next.client.begun next.answered)))
-    (answer_holds trace run.host run.segment run.daemon (slice_set run.clients (client - 1) next.client) (reverse run.events) client next.client.begun next.answered h.high h.daemon_holds is.tells
+    (answer_holds trace run.host run.segment run.daemon (slice_set run.clients (client - 1) next.client) (reverse run.events) client next.client.begun next.answered h.has_done h.daemon_holds is.tells
     (all_set trace run.segment.base run.segment.position run.host.done (reverse run.events) run.clients (client - 1) next.client is.fits h.clients_fit))
 
 client_holds : (trace : Trace) (run : Run) (place : ℕ) (old : Option ClientRun) → slice_get run.clients place ≡ old → RunHolds trace run → RunHolds trace (client_turn_in trace run (suc place) old)
@@ -176,11 +177,11 @@ client_holds trace run place (Some old) at h =
 
 pub turn_holds : (trace : Trace) (run : Run) (who : Party) → RunHolds trace run → RunHolds trace (turn trace run who)
 turn_holds trace run Host h =
-    let bounds = host_bounds trace.host run.host (slice_get trace.host run.host.done) refl h.high in
+    let bounds = host_bounds trace.host run.host (slice_get trace.host run.host.done) refl h.has_done.1 in
     host_holds trace run.host (host_turn trace.host run.host) run.segment run.daemon run.clients (reverse run.events) bounds.0 bounds.1 h
 turn_holds trace run Daemon h =
-    daemon_next trace run (daemon_turn trace run.host run.segment run.daemon) h.high
-    (daemon_tells trace run.host run.segment run.daemon (reverse run.events) h.high h.daemon_holds) h
+    daemon_next trace run (daemon_turn trace run.host run.segment run.daemon) h.has_done
+    (daemon_tells trace run.host run.segment run.daemon (reverse run.events) h.has_done h.daemon_holds) h
 turn_holds trace run (Client zero) h = h
 turn_holds trace run (Client (suc place)) h = client_holds trace run place (slice_get run.clients place) refl h
 
@@ -209,7 +210,7 @@ some_rows (row ∷ rows) begins = omega arith
 pub start_holds : (trace : Trace) → IsLawfulTrace trace → RunHolds trace (start trace)
 start_holds trace lawful =
     record {
-      high = some_rows trace.host lawful.host.begins;
+      has_done = (omega arith, some_rows trace.host lawful.host.begins);
       daemon_holds = record { stands = image_stands trace (start_of trace.image) refl; earlier = tt; fits = tt; tells = tt };
       clients_fit = none_begun trace (start trace).segment.base (start trace).segment.position 1 [] (range_with_len 1 trace.clients);
     }

@@ -6,18 +6,18 @@ use Rattle.segment_layout.specs.declared.publication.Publication.{Publication}
 use Rattle.abstract_run.specs.declared.event.Event.{Event}
 use Rattle.abstract_run.specs.declared.event.Event.TheVariants.{Opened, Moved, Published, Skipped, Stopped, Answered}
 use Rattle.abstract_run.specs.RunHost.{clocks_at}
-use Rattle.abstract_run.specs.RunFacts.{EndedAs, told_at, told_by, AllEarlier, IsAsked, PublishedTells, HasBase, AllTell, AllBased}
+use Rattle.abstract_run.specs.RunFacts.{PublishedEvent, told_at, told_by, AllEarlier, IsAsked, PublishedTells, HasBase, AllTell, AllBased}
 use Rattle.abstract_run.proofs.RunFactsBases.{has_same, has_later}
 
 -- ---- of the publication alone
 
-pub record EndedFits (trace : Trace) (told : EndedAs) : Type 0 where
+pub record EndedFits (trace : Trace) (told : PublishedEvent) : Type 0 where
   pub asked : IsAsked trace told.publication.asked told.marked_at
   pub marked : told.marked_at ≤ told.replied_at
   pub replied : told.publication.replied ≡ clocks_at trace.host told.replied_at
   pub done : told.replied_at ≤ length trace.host
 
-fits_by : (trace : Trace) (test : Bool) (one told : EndedAs) (rest : Option EndedAs) → EndedFits trace one → (rest ≡ Some told → EndedFits trace told) → (if test then Some one else rest) ≡ Some told → EndedFits trace told
+fits_by : (trace : Trace) (test : Bool) (one told : PublishedEvent) (rest : Option PublishedEvent) → EndedFits trace one → (rest ≡ Some told → EndedFits trace told) → (if test then Some one else rest) ≡ Some told → EndedFits trace told
 fits_by trace true one told rest own later is = let same : one ≡ told = cc is in subst (EndedFits trace) same own
 fits_by trace false one told rest own later is = later is
 
@@ -26,7 +26,7 @@ one_fits : (trace : Trace) (past : List Event) (position : ℕ) (publication : P
 one_fits trace past position publication marked_at replied_at tells = record { asked = tells.asked; marked = tells.marked; replied = tells.replied; done = tells.done }
 
 -- the publication at a position
-pub at_fits : (trace : Trace) (past : List Event) (n : ℕ) (told : EndedAs) → AllTell trace past → told_at n past ≡ Some told → EndedFits trace told
+pub at_fits : (trace : Trace) (past : List Event) (n : ℕ) (told : PublishedEvent) → AllTell trace past → told_at n past ≡ Some told → EndedFits trace told
 at_fits trace [] n told all is = absurd (cc is)
 at_fits trace (Opened poll begins ∷ past) n told all is = at_fits trace past n told all is
 at_fits trace (Moved poll position generation ∷ past) n told all is = at_fits trace past n told all is
@@ -38,7 +38,7 @@ at_fits trace (Stopped poll stores ∷ past) n told all is = at_fits trace past 
 at_fits trace (Answered client call answer trail ∷ past) n told all is = at_fits trace past n told all.1 is
 
 -- the publication of a poll
-pub by_fits : (trace : Trace) (past : List Event) (n : ℕ) (told : EndedAs) → AllTell trace past → told_by n past ≡ Some told → EndedFits trace told
+pub by_fits : (trace : Trace) (past : List Event) (n : ℕ) (told : PublishedEvent) → AllTell trace past → told_by n past ≡ Some told → EndedFits trace told
 by_fits trace [] n told all is = absurd (cc is)
 by_fits trace (Opened poll begins ∷ past) n told all is = by_fits trace past n told all is
 by_fits trace (Moved poll position generation ∷ past) n told all is = by_fits trace past n told all is
@@ -51,13 +51,13 @@ by_fits trace (Answered client call answer trail ∷ past) n told all is = by_fi
 
 -- ---- its base
 
-before_by : (test : Bool) (one told : EndedAs) (rest : Option EndedAs) (replied_at : ℕ) → one.replied_at ≤ replied_at → (rest ≡ Some told → told.replied_at ≤ replied_at)
+before_by : (test : Bool) (one told : PublishedEvent) (rest : Option PublishedEvent) (replied_at : ℕ) → one.replied_at ≤ replied_at → (rest ≡ Some told → told.replied_at ≤ replied_at)
     → (if test then Some one else rest) ≡ Some told → told.replied_at ≤ replied_at
-before_by true one told rest replied_at own later is = let same : one ≡ told = cc is in subst (λ (e : EndedAs). e.replied_at ≤ replied_at) same own
+before_by true one told rest replied_at own later is = let same : one ≡ told = cc is in subst (λ (e : PublishedEvent). e.replied_at ≤ replied_at) same own
 before_by false one told rest replied_at own later is = later is
 
 -- no reply of an earlier publication was taken later
-pub told_before : (position poll replied_at n : ℕ) (past : List Event) (told : EndedAs) → AllEarlier position poll replied_at past → told_by n past ≡ Some told → told.replied_at ≤ replied_at
+pub told_before : (position poll replied_at n : ℕ) (past : List Event) (told : PublishedEvent) → AllEarlier position poll replied_at past → told_by n past ≡ Some told → told.replied_at ≤ replied_at
 told_before p q r n [] told h is = absurd (cc is)
 told_before p q r n (Opened which start ∷ past) told h is = told_before p q r n past told h is
 told_before p q r n (Moved which to generation ∷ past) told h is = told_before p q r n past told h.1 is
@@ -69,17 +69,17 @@ told_before p q r n (Stopped which stores ∷ past) told h is = told_before p q 
 told_before p q r n (Answered client call answer trail ∷ past) told h is = told_before p q r n past told h is
 
 -- a publication's base was published too, by a reply taken no later, whatever was published since
-pub record BaseStands (trace : Trace) (past : List Event) (told : EndedAs) : Type 0 where
+pub record BaseStands (trace : Trace) (past : List Event) (told : PublishedEvent) : Type 0 where
   pub has : HasBase trace past told.publication.base told.publication.rec.as_of told.publication.rec.bound
   pub no_later : has.told.replied_at ≤ told.replied_at
 
-stands_same : (trace : Trace) (past more : List Event) (told : EndedAs) → ((n : ℕ) → told_by n more ≡ told_by n past) → BaseStands trace past told → BaseStands trace more told
+stands_same : (trace : Trace) (past more : List Event) (told : PublishedEvent) → ((n : ℕ) → told_by n more ≡ told_by n past) → BaseStands trace past told → BaseStands trace more told
 unfolding has_same
 stands_same trace past more told same is =
     record { has = has_same trace past more told.publication.base told.publication.rec.as_of told.publication.rec.bound same is.has; no_later = is.no_later }
 
 module _ (trace : Trace) (past : List Event) (position : ℕ) (publication : Publication) (marked_at replied_at : ℕ) where
-  abbrev this : EndedAs
+  abbrev this : PublishedEvent
   this = record { position = position; publication = publication; marked_at = marked_at; replied_at = replied_at }
 
   own_stands : AllEarlier position publication.poll replied_at past
@@ -92,7 +92,7 @@ module _ (trace : Trace) (past : List Event) (position : ℕ) (publication : Pub
             (λ later. told_before position publication.poll replied_at publication.base past has.told earlier later) has.found;
       }
 
-  later_stands : (told : EndedAs) → AllEarlier position publication.poll replied_at past → BaseStands trace past told → BaseStands trace (Published position publication marked_at replied_at ∷ past) told
+  later_stands : (told : PublishedEvent) → AllEarlier position publication.poll replied_at past → BaseStands trace past told → BaseStands trace (Published position publication marked_at replied_at ∷ past) told
   unfolding has_later
   later_stands told earlier is =
       record {
@@ -100,16 +100,16 @@ module _ (trace : Trace) (past : List Event) (position : ℕ) (publication : Pub
         no_later = is.no_later;
       }
 
-  stands_by : (test : Bool) (told : EndedAs) (rest : Option EndedAs) → AllEarlier position publication.poll replied_at past
+  stands_by : (test : Bool) (told : PublishedEvent) (rest : Option PublishedEvent) → AllEarlier position publication.poll replied_at past
       → (0 < publication.base → HasBase trace (Published position publication marked_at replied_at ∷ past) publication.base publication.rec.as_of publication.rec.bound)
       → (rest ≡ Some told → 0 < told.publication.base → BaseStands trace past told) → (if test then Some this else rest) ≡ Some told → 0 < told.publication.base
       → BaseStands trace (Published position publication marked_at replied_at ∷ past) told
   stands_by true told rest earlier own later is =
       let same : this ≡ told = cc is in
-      subst (λ (e : EndedAs). 0 < e.publication.base → BaseStands trace (Published position publication marked_at replied_at ∷ past) e) same (λ some. own_stands earlier (own some))
+      subst (λ (e : PublishedEvent). 0 < e.publication.base → BaseStands trace (Published position publication marked_at replied_at ∷ past) e) same (λ some. own_stands earlier (own some))
   stands_by false told rest earlier own later is = λ some. later_stands told earlier (later is some)
 
-pub base_stands : (trace : Trace) (past : List Event) (n : ℕ) (told : EndedAs) → AllTell trace past → AllBased trace past → told_at n past ≡ Some told → 0 < told.publication.base → BaseStands trace past told
+pub base_stands : (trace : Trace) (past : List Event) (n : ℕ) (told : PublishedEvent) → AllTell trace past → AllBased trace past → told_at n past ≡ Some told → 0 < told.publication.base → BaseStands trace past told
 base_stands trace [] n told all based is some = absurd (cc is)
 base_stands trace (Opened poll begins ∷ past) n told all based is some =
     stands_same trace past (Opened poll begins ∷ past) told (λ k. refl) (base_stands trace past n told all based is some)

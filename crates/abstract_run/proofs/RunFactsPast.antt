@@ -8,7 +8,7 @@ use Rattle.segment_layout.specs.declared.publication.Publication.{Publication}
 use Rattle.segment_layout.specs.Image.{start_of}
 use Rattle.abstract_run.specs.declared.event.Event.{Event}
 use Rattle.abstract_run.specs.declared.event.Event.TheVariants.{Opened, Moved, Published, Skipped, Stopped, Answered}
-use Rattle.abstract_run.specs.RunFacts.{EndedAs, told_at, is_moved_to, is_kept_at, is_image_at, made_by, AllEarlier, StoodBy, StoodAt}
+use Rattle.abstract_run.specs.RunFacts.{PublishedEvent, told_at, is_moved_to, is_kept_at, is_image_at, made_by, AllEarlier, StoodBy, StoodAt}
 
 -- ---- positions, poll numbers and moments along the publications
 
@@ -25,7 +25,7 @@ earlier_more p q r p' q' r' (Answered client call answer trail ∷ past) a b c h
 
 -- ---- what stands at a position
 
-pub stood_later : (is_image : Bool) (low high : ℕ) (told : Option EndedAs) → low ≤ high → StoodBy is_image low told → StoodBy is_image high told
+pub stood_later : (is_image : Bool) (low high : ℕ) (told : Option PublishedEvent) → low ≤ high → StoodBy is_image low told → StoodBy is_image high told
 stood_later is_image low high None more stood = stood
 stood_later is_image low high (Some told) more stood = omega (arith, more, stood)
 
@@ -33,7 +33,7 @@ or_later : (one two three : Bool) → (two || three) ≡ true → ((one || two) 
 or_later true two three is = refl
 or_later false two three is = is
 
-by_later : (one two three : Bool) (clock_at : ℕ) (told : Option EndedAs) → StoodBy (two || three) clock_at told → StoodBy ((one || two) || three) clock_at told
+by_later : (one two three : Bool) (clock_at : ℕ) (told : Option PublishedEvent) → StoodBy (two || three) clock_at told → StoodBy ((one || two) || three) clock_at told
 by_later one two three clock_at None stood = or_later one two three stood
 by_later one two three clock_at (Some told) stood = stood
 
@@ -42,10 +42,10 @@ pub stood_moved : (trace : Trace) (past : List Event) (poll position generation 
 stood_moved trace past poll position generation n clock_at stood =
     by_later (position == n) (is_moved_to n past) (is_kept_at n (start_of trace.image)) clock_at (told_at n past) stood
 
-other_by : (is_image test : Bool) (clock_at : ℕ) (one : EndedAs) (told : Option EndedAs) → test ≡ false → StoodBy is_image clock_at told → StoodBy is_image clock_at (if test then Some one else told)
+other_by : (is_image test : Bool) (clock_at : ℕ) (one : PublishedEvent) (told : Option PublishedEvent) → test ≡ false → StoodBy is_image clock_at told → StoodBy is_image clock_at (if test then Some one else told)
 other_by is_image test clock_at one told other stood = rw other stood
 
-own_by : (is_image test : Bool) (clock_at : ℕ) (one : EndedAs) (told : Option EndedAs) → test ≡ true → one.replied_at ≤ clock_at → StoodBy is_image clock_at (if test then Some one else told)
+own_by : (is_image test : Bool) (clock_at : ℕ) (one : PublishedEvent) (told : Option PublishedEvent) → test ≡ true → one.replied_at ≤ clock_at → StoodBy is_image clock_at (if test then Some one else told)
 own_by is_image test clock_at one told own at = rw own at
 
 -- a publication hides nothing at another position
@@ -65,7 +65,7 @@ stood_own trace past position publication marked_at replied_at clock_at before =
     (record { position = position; publication = publication; marked_at = marked_at; replied_at = replied_at }) (told_at position past) own before
 
 -- no publication has a position from this one on
-none_by : (test : Bool) (one : EndedAs) (told : Option EndedAs) → test ≡ false → told ≡ None → (if test then Some one else told) ≡ None
+none_by : (test : Bool) (one : PublishedEvent) (told : Option PublishedEvent) → test ≡ false → told ≡ None → (if test then Some one else told) ≡ None
 none_by test one told other none = rw other none
 
 pub none_at : (position poll replied_at : ℕ) (past : List Event) → AllEarlier position poll replied_at past → told_at position past ≡ None
@@ -80,7 +80,7 @@ none_at p q r (Skipped which first last ∷ past) h = none_at p q r past h
 none_at p q r (Stopped which stores ∷ past) h = none_at p q r past h
 none_at p q r (Answered client call answer trail ∷ past) h = none_at p q r past h
 
-moved_by : (test two three : Bool) (clock_at : ℕ) (told : Option EndedAs) → test ≡ true → told ≡ None → StoodBy ((test || two) || three) clock_at told
+moved_by : (test two three : Bool) (clock_at : ℕ) (told : Option PublishedEvent) → test ≡ true → told ≡ None → StoodBy ((test || two) || three) clock_at told
 moved_by test two three clock_at told own none = rw none (rw own refl)
 
 -- a moved record stands where it was moved to

@@ -23,20 +23,20 @@ use Rattle.abstract_run.specs.Given.{CanRun}
 -- ---- look-ups among the events before
 
 -- a publication as its event has it: the four fields of an event Published
-pub record EndedAs : Type 0 where
+pub record PublishedEvent : Type 0 where
   pub position : ℕ
   pub publication : Publication
   pub marked_at : ℕ
   pub replied_at : ℕ
 
 -- this publication is one of the events
-abbrev pub HasPublication : List Event → EndedAs → Type 0
+abbrev pub HasPublication : List Event → PublishedEvent → Type 0
 HasPublication events ended =
     (before : List Event) × ((after : List Event)
     × (events ≡ before ++ Published ended.position ended.publication ended.marked_at ended.replied_at ∷ after))
 
 -- the last publication that made this position
-abbrev pub told_at : ℕ → List Event → Option EndedAs
+abbrev pub told_at : ℕ → List Event → Option PublishedEvent
 told_at n [] = None
 told_at n (Published position publication marked_at replied_at ∷ past) =
     if position == n then Some (record { position = position; publication = publication; marked_at = marked_at; replied_at = replied_at })
@@ -44,7 +44,7 @@ told_at n (Published position publication marked_at replied_at ∷ past) =
 told_at n (event ∷ past) = told_at n past
 
 -- the last publication of this poll
-abbrev pub told_by : ℕ → List Event → Option EndedAs
+abbrev pub told_by : ℕ → List Event → Option PublishedEvent
 told_by n [] = None
 told_by n (Published position publication marked_at replied_at ∷ past) =
     if publication.poll == n then Some (record { position = position; publication = publication; marked_at = marked_at; replied_at = replied_at })
@@ -87,6 +87,7 @@ AllEarlier position poll replied_at (event ∷ past) = AllEarlier position poll 
 -- a poll's first reading is of this row, and its marker was loaded, or stands for loaded, at this host position
 pub record IsAsked (trace : Trace) (row marked_at : ℕ) : Type 0 where
   pub asked_at : ℕ
+  pub some : 0 < asked_at
   pub read : row ≡ clocks_at trace.host asked_at
   pub before : asked_at ≤ marked_at
 
@@ -100,7 +101,7 @@ pub record PublishedTells (trace : Trace) (past : List Event) (position : ℕ) (
 -- ---- an answer
 
 -- the record at a position is that of a poll whose reply was taken no later than at this host position, or it is the image's
-abbrev pub StoodBy : (is_image : Bool) → (clock_at : ℕ) → Option EndedAs → Type 0
+abbrev pub StoodBy : (is_image : Bool) → (clock_at : ℕ) → Option PublishedEvent → Type 0
 StoodBy is_image clock_at None = is_image ≡ true
 StoodBy is_image clock_at (Some told) = told.replied_at ≤ clock_at
 
@@ -146,7 +147,7 @@ given_by trace publication =
 
 -- the poll that gave a base was published, with itself as its base, and with this as-of and this bound, which it gives
 pub record HasBase (trace : Trace) (past : List Event) (base : ℕ) (as_of bound : ℤ) : Type 0 where
-  pub told : EndedAs
+  pub told : PublishedEvent
   pub found : told_by base past ≡ Some told
   pub own : told.publication.base ≡ base
   pub from : told.publication.rec.as_of ≡ as_of

@@ -12,7 +12,7 @@ use Rattle.interval_now.specs.declared.answers.Timed.{Timed}
 use Rattle.abstract_run.specs.declared.event.Event.{Event}
 use Rattle.abstract_run.specs.declared.event.Event.TheVariants.{Opened, Moved, Published, Skipped, Stopped, Answered}
 use Rattle.abstract_run.specs.declared.event.Trail.{Trail}
-use Rattle.abstract_run.specs.RunFacts.{AllBased, AllTell, EndedAs, told_at}
+use Rattle.abstract_run.specs.RunFacts.{AllBased, AllTell, PublishedEvent, told_at}
 use Rattle.abstract_run.specs.RunWhole.{run_of}
 use Rattle.abstract_run.specs.Given.{CanRun}
 use Rattle.abstract_run.proofs.RunFactsLaws.{BaseStands, base_stands}
@@ -47,7 +47,7 @@ module _ (seed polls : ℕ) (low : 6 ≤ polls) (high : polls ≤ 20000) where
     few : trail.inside ≤ polls
     few = let inside = has.few in let long = polls_length seed polls in omega (arith, inside, long)
 
-    of_day : (told base : EndedAs) → told_at trail.position past ≡ Some told → FitsRows day (poll_claim time trail told base) → 0 < told.publication.base → IsOfDay polls (poll_claim time trail told base)
+    of_day : (told base : PublishedEvent) → told_at trail.position past ≡ Some told → FitsRows day (poll_claim time trail told base) → 0 < told.publication.base → IsOfDay polls (poll_claim time trail told base)
     of_day told base found fits some =
         let rows = clock_length seed polls in
         let most = fits.row_most in

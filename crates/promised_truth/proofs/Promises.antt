@@ -5,7 +5,7 @@ use Rattle.clock_gate.specs.declared.trace.Trace.{Trace}
 use Rattle.interval_now.specs.declared.answers.Timed.{Timed}
 use Rattle.abstract_run.specs.declared.event.Event.{Event}
 use Rattle.abstract_run.specs.declared.event.Trail.{Trail}
-use Rattle.abstract_run.specs.RunFacts.{EndedAs}
+use Rattle.abstract_run.specs.RunFacts.{PublishedEvent}
 use Rattle.abstract_run.specs.RunHost.{clocks_at}
 use Rattle.abstract_run.specs.Given.{CanRun}
 use Rattle.promise_judge.specs.Containment as judge
@@ -20,13 +20,13 @@ module _ (trace : Trace) (can : CanRun trace) (before : List Event) (time : Time
   same_markers : judge.marker_at trace ≡ marker_at trace
   same_markers = fun_ext (λ done. judge_marker trace done can.rows)
 
-  abbrev KeepsMark : EndedAs → (ℕ → Option ℕ) → Type 0
+  abbrev KeepsMark : PublishedEvent → (ℕ → Option ℕ) → Type 0
   KeepsMark base markers = (p : ℕ) → base.marked_at < p → clocks_at trace.host p < time.row → Disrupts trace p → HasMark markers trail.mark_at p
 
   abbrev KeepsRepeat : (ℕ → Option ℕ) → Type 0
   KeepsRepeat markers = (p : ℕ) → p ≤ trail.mark_at → ChangesMarker markers p → IsNewMarker markers p
 
-  pub promises_of : (told base : EndedAs) → IsBasedOn before trail told base → ArePromisesKept trace (poll_claim time trail told base) → KeepsPromises trace before time trail
+  pub promises_of : (told base : PublishedEvent) → IsBasedOn before trail told base → ArePromisesKept trace (poll_claim time trail told base) → KeepsPromises trace before time trail
   promises_of told base found kept = record {
     told = told;
     base = base;

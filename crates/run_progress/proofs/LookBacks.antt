@@ -9,7 +9,7 @@ use Rattle.segment_layout.specs.declared.start.Start.{Start}
 use Rattle.segment_layout.specs.declared.start.Start.TheVariants.{Fresh, Kept, Torn}
 use Rattle.abstract_run.specs.declared.event.Event.{Event}
 use Rattle.abstract_run.specs.declared.event.Event.TheVariants.{Opened, Moved, Published, Skipped, Stopped, Answered}
-use Rattle.run_progress.specs.Progress.{positions_made, position_after, Lives, LivesAt, IsLeftOpen, IsFoundAfter}
+use Rattle.run_progress.specs.Progress.{positions_made, position_after, Lives, FitsLife, IsLeftOpen, IsFoundAfter}
 use Rattle.run_progress.proofs.First.{is_torn_first, torn_from, torn_by}
 
 -- ---- lives
@@ -93,7 +93,7 @@ LivesBy lives (Opened poll found) = lives ≡ false
 LivesBy lives (Answered client call answer trail) = Unit {0}
 LivesBy lives other = lives ≡ true
 
-pub lives_at : (before : List Event) (event : Event) → LivesBy (lives_after false before) event → LivesAt before event
+pub lives_at : (before : List Event) (event : Event) → LivesBy (lives_after false before) event → FitsLife before event
 lives_at before (Opened poll found) off = λ is. (let on = lives_by before is in absurd (cc (on, off)))
 lives_at before (Moved poll position generation) on = lives_from before on
 lives_at before (Published position publication marked_at replied_at) on = lives_from before on

@@ -15,7 +15,7 @@ use Rattle.abstract_run.specs.declared.event.Event.{Event}
 use Rattle.abstract_run.specs.declared.event.Event.TheVariants.{Published}
 use Rattle.abstract_run.specs.RunHost.{HostRun}
 use Rattle.abstract_run.specs.RunDaemon.{Life, Work, Resting, Opening, Asking, Looking, Taking, Writing, DaemonRun}
-use Rattle.abstract_run.specs.RunFacts.{EndedAs, told_at, told_by}
+use Rattle.abstract_run.specs.RunFacts.{PublishedEvent, told_at, told_by}
 use Rattle.run_promises.specs.Told.{marker_at, IsMarked, IsMarkOf, KeepsMarker, AllMarked, IsFresh, KnowsPoll}
 use Rattle.run_promises.proofs.Marks.{BaseMarked, LifeMarked, LifeKnown}
 use Rattle.run_promises.proofs.PageReads.{LookFits}
@@ -120,10 +120,10 @@ start_same trace past more number (Kept generation rec) same is = (λ some calm.
 published_same : (past more : List Event) (position : ℕ) (publication : Publication) (marked_at replied_at : ℕ) → AreSame past more
     → AreSame (Published position publication marked_at replied_at ∷ past) (Published position publication marked_at replied_at ∷ more)
 published_same past more position publication marked_at replied_at same =
-    let one : EndedAs = record { position = position; publication = publication; marked_at = marked_at; replied_at = replied_at } in
+    let one : PublishedEvent = record { position = position; publication = publication; marked_at = marked_at; replied_at = replied_at } in
     record {
-      by = λ n. ap (λ (o : Option EndedAs). if publication.poll == n then Some one else o) (same.by n);
-      at = λ n. ap (λ (o : Option EndedAs). if position == n then Some one else o) (same.at n);
+      by = λ n. ap (λ (o : Option PublishedEvent). if publication.poll == n then Some one else o) (same.by n);
+      at = λ n. ap (λ (o : Option PublishedEvent). if position == n then Some one else o) (same.at n);
     }
 
 writing_same : (trace : Trace) (past more : List Event) (publication : Publication) (marked_at replied_at : ℕ) (life : Option Life) → AreSame past more

@@ -27,7 +27,7 @@ use Rattle.abstract_run.specs.RunPage.{PageAfter, Looks, Saw, Missed, page_load,
 use Rattle.abstract_run.specs.RunDaemon as run_daemon
 use Rattle.abstract_run.specs.RunDaemon.{Life, Asked, Storing, Work, Resting, Opening, Asking, Looking, Taking, Writing, DaemonRun, DaemonTurn, daemon_turn, marked_by}
 use Rattle.status_machine.specs.Base.{base_number}
-use Rattle.abstract_run.specs.RunFacts.{EndedAs, told_at, AllEarlier}
+use Rattle.abstract_run.specs.RunFacts.{PublishedEvent, told_at, AllEarlier}
 use Rattle.abstract_run.proofs.RunFactsDaemon.{next_number, WorkFits, opening_some}
 use Rattle.run_promises.specs.Told.{marker_at, IsMarkOf, KeepsMarker, AllMarked, IsFresh, KnowsPoll}
 use Rattle.run_promises.proofs.PollNumbers.{Numbered, IsBegun}
@@ -226,7 +226,7 @@ module _ (trace : Trace) (host : HostRun) (from : SegmentRun) (past : List Event
   named_is None rec marked_at marker support = rw support refl
   named_is (Some page) rec marked_at marker support = rw support (ap Some marker)
 
-  other_none : (position n : ℕ) (one : EndedAs) (rest : Option EndedAs) → (if position == n then Some one else rest) ≡ None → (position ≢ n) × (rest ≡ None)
+  other_none : (position n : ℕ) (one : PublishedEvent) (rest : Option PublishedEvent) → (if position == n then Some one else rest) ≡ None → (position ≢ n) × (rest ≡ None)
   other_none position n one rest is = elim (cases_eq position n) [
     | inl same ↦ (let on : (position == n) ≡ true = grind (arith, nat_tests, same) in absurd (cc (is, on)))
     | inr differs ↦ (let off : (position == n) ≡ false = grind (arith, nat_tests, differs) in (differs, cc (is, off)))
@@ -238,7 +238,7 @@ module _ (trace : Trace) (host : HostRun) (from : SegmentRun) (past : List Event
   ended_left segment number publication marked_at replied_at life on is writing =
       let known = is.marked.known in
       let longer = is.later.longer in
-      let one : EndedAs = record { position = segment.position + 1; publication = publication; marked_at = marked_at; replied_at = replied_at } in
+      let one : PublishedEvent = record { position = segment.position + 1; publication = publication; marked_at = marked_at; replied_at = replied_at } in
       let more : List Event = Published (segment.position + 1) publication marked_at replied_at ∷ past in
       let new : IsEntry segment.base (segment.history ++ publication ∷ []) (segment.position + 1) publication = newest segment.base segment.history segment.position publication is.marked.known in
       record {

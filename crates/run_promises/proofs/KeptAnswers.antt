@@ -14,7 +14,7 @@ use Rattle.interval_now.specs.Interval.{half_width_of, elapsed_of, growth_of, Is
 use Rattle.abstract_run.specs.declared.event.Event.{Event}
 use Rattle.abstract_run.specs.declared.event.Event.TheVariants.{Opened, Moved, Published, Skipped, Stopped, Answered}
 use Rattle.abstract_run.specs.declared.event.Trail.{Trail}
-use Rattle.abstract_run.specs.RunFacts.{EndedAs, told_at, told_by, StoodBy, is_image_at, AnsweredTells, AllTell, AllBased, given_by, is_kept_at}
+use Rattle.abstract_run.specs.RunFacts.{PublishedEvent, told_at, told_by, StoodBy, is_image_at, AnsweredTells, AllTell, AllBased, given_by, is_kept_at}
 use Rattle.abstract_run.specs.Given.{CanRun}
 use Rattle.abstract_run.proofs.RunFactsLaws.{EndedFits, by_fits, BaseStands, base_stands}
 use Rattle.promise_judge.specs.declared.claim.Claim.{Claim}
@@ -74,12 +74,12 @@ pub record Tells (trace : Trace) (past : List Event) (time : Timed) (trail : Tra
 
 module _ (trace : Trace) (can : CanRun trace) (past : List Event) (time : Timed) (trail : Trail) (tells : Tells trace past time trail) where
   -- the base of a publication, where it is this one's
-  record HasBaseAs (told base : EndedAs) : Type 0 where
+  record HasBaseAs (told base : PublishedEvent) : Type 0 where
     gives : given_by trace base.publication ≡ Some (record { as_of = told.publication.rec.as_of; bound = told.publication.rec.bound; poll = told.publication.base })
     no_later : base.replied_at ≤ told.replied_at
     given : IsGiven (row_at trace.clock base.publication.asked).mono (record { as_of = told.publication.rec.as_of; bound = told.publication.rec.bound; poll = told.publication.base })
 
-  base_by : (told base : EndedAs) (is : BaseStands trace past told) → is.has.told ≡ base → HasBaseAs told base
+  base_by : (told base : PublishedEvent) (is : BaseStands trace past told) → is.has.told ≡ base → HasBaseAs told base
   base_by told base is same =
       subst (HasBaseAs told) same
       (record {
@@ -88,16 +88,16 @@ module _ (trace : Trace) (can : CanRun trace) (past : List Event) (time : Timed)
         given = poll_gives _ (record { as_of = told.publication.rec.as_of; bound = told.publication.rec.bound; poll = told.publication.base }) is.has.gives;
       })
 
-  based_as : (told base : EndedAs) → told_at trail.position past ≡ Some told → told_by told.publication.base past ≡ Some base → 0 < told.publication.base → HasBaseAs told base
+  based_as : (told base : PublishedEvent) → told_at trail.position past ≡ Some told → told_by told.publication.base past ≡ Some base → 0 < told.publication.base → HasBaseAs told base
   based_as told base found found_base some =
       let is : BaseStands trace past told = base_stands trace past trail.position told tells.all tells.based found some in
       let both : Some is.has.told ≡ Some base = sym is.has.found ∙ found_base in
       base_by told base is (cc both)
 
-  stood_before : (told : EndedAs) → told_at trail.position past ≡ Some told → told.replied_at ≤ trail.clock_at
+  stood_before : (told : PublishedEvent) → told_at trail.position past ≡ Some told → told.replied_at ≤ trail.clock_at
   stood_before told found = subst (StoodBy (is_image_at trace past trail.position) trail.clock_at) found tells.answer.stood
 
-  told_claim : (told base : EndedAs) → told_at trail.position past ≡ Some told → told_by told.publication.base past ≡ Some base → 0 < told.publication.base
+  told_claim : (told base : PublishedEvent) → told_at trail.position past ≡ Some told → told_by told.publication.base past ≡ Some base → 0 < told.publication.base
       → IsTold trace (poll_claim time trail told base) base.replied_at trail.clock_at
   told_claim told base found found_base some =
       let fits : EndedFits trace base = by_fits trace past told.publication.base base tells.all found_base in
@@ -113,7 +113,7 @@ module _ (trace : Trace) (can : CanRun trace) (past : List Event) (time : Timed)
         done = tells.answer.done;
       }
 
-  fits_rows : (told base : EndedAs) → told_at trail.position past ≡ Some told → told_by told.publication.base past ≡ Some base → 0 < told.publication.base → FitsRows trace (poll_claim time trail told base)
+  fits_rows : (told base : PublishedEvent) → told_at trail.position past ≡ Some told → told_by told.publication.base past ≡ Some base → 0 < told.publication.base → FitsRows trace (poll_claim time trail told base)
   fits_rows told base found found_base some =
       told_fits trace (poll_claim time trail told base) base.replied_at trail.clock_at can.lawful.host (told_claim told base found found_base some)
 
@@ -124,7 +124,7 @@ module _ (trace : Trace) (can : CanRun trace) (past : List Event) (time : Timed)
 
   -- ---- without a fault
 
-  same_marker : (told base : EndedAs) → told_at trail.position past ≡ Some told → told_by told.publication.base past ≡ Some base → 0 < told.publication.base
+  same_marker : (told base : PublishedEvent) → told_at trail.position past ≡ Some told → told_by told.publication.base past ≡ Some base → 0 < told.publication.base
       → IsInterval told.publication.rec (row_at trace.clock time.row).mono (row_at trace.clock time.row).real (marker_at trace trail.mark_at) time.interval
       → judge.marker_at trace trail.mark_at ≡ judge.marker_at trace base.marked_at
   same_marker told base found found_base some is =
@@ -136,10 +136,10 @@ module _ (trace : Trace) (can : CanRun trace) (past : List Event) (time : Timed)
       judge_marker trace trail.mark_at can.rows
       ∙ calm.1
       ∙ keeps.same
-      ∙ ap (λ (e : EndedAs). marker_at trace e.marked_at) same
+      ∙ ap (λ (e : PublishedEvent). marker_at trace e.marked_at) same
       ∙ sym (judge_marker trace base.marked_at can.rows)
 
-  asked_rises : (base : EndedAs) → EndedFits trace base → base.publication.asked ≤ base.publication.replied
+  asked_rises : (base : PublishedEvent) → EndedFits trace base → base.publication.asked ≤ base.publication.replied
   asked_rises base fits =
       let asked = fits.asked.read in
       let replied = fits.replied in
@@ -149,10 +149,10 @@ module _ (trace : Trace) (can : CanRun trace) (past : List Event) (time : Timed)
       omega (arith, asked, replied, more)
 
   -- the growth of its record
-  growth_in : (told : EndedAs) → ℕ
+  growth_in : (told : PublishedEvent) → ℕ
   growth_in told = growth_of (elapsed_of told.publication.rec.as_of (row_at trace.clock time.row).mono) told.publication.rec.drift
 
-  by_poll : (told base : EndedAs) → told_at trail.position past ≡ Some told → told_by told.publication.base past ≡ Some base → 0 < told.publication.base → trail.inside < period_of trace.layout
+  by_poll : (told base : PublishedEvent) → told_at trail.position past ≡ Some told → told_by told.publication.base past ≡ Some base → 0 < told.publication.base → trail.inside < period_of trace.layout
       → IsByPoll trace time trail told base (row_at trace.clock base.publication.asked).mono (growth_in told)
   unfolding growth_in
   by_poll told base found found_base some few =
@@ -194,11 +194,11 @@ module _ (trace : Trace) (can : CanRun trace) (past : List Event) (time : Timed)
       kept_none : (n : ℕ) → IsFresh trace → is_kept_at n (start_of trace.image) ≡ false
       kept_none n fresh = ap (is_kept_at n) (image_of-start trace.layout trace.image Fresh fresh)
 
-  told_or : (told : Option EndedAs) (is_image : Bool) → is_image ≡ false → StoodBy is_image trail.clock_at told → (one : EndedAs) × (told ≡ Some one)
+  told_or : (told : Option PublishedEvent) (is_image : Bool) → is_image ≡ false → StoodBy is_image trail.clock_at told → (one : PublishedEvent) × (told ≡ Some one)
   told_or None is_image none stood = absurd (cc (none, stood))
   told_or (Some told) is_image none stood = (told, refl)
 
-  known_base : (fresh : IsFresh trace) (few : trail.inside < period_of trace.layout) (told : EndedAs) → told_at trail.position past ≡ Some told → 0 < told.publication.base
+  known_base : (fresh : IsFresh trace) (few : trail.inside < period_of trace.layout) (told : PublishedEvent) → told_at trail.position past ≡ Some told → 0 < told.publication.base
   known_base fresh few told found =
       let is : IsInterval told.publication.rec (row_at trace.clock time.row).mono (row_at trace.clock time.row).real (marker_at trace trail.mark_at) time.interval =
       interval_is told.publication.rec (row_at trace.clock time.row).mono (row_at trace.clock time.row).real (marker_at trace trail.mark_at) time.interval (tells.by_publication told found few) in
@@ -222,7 +222,7 @@ module _ (trace : Trace) (can : CanRun trace) (past : List Event) (time : Timed)
       let is : BaseStands trace past told = base_stands trace past trail.position told tells.all tells.based found some in
       (is.has.told, is.has.found, ((row_at trace.clock is.has.told.publication.asked).mono, (growth_in told, by_poll told is.has.told found is.has.found some few)))
 
-  contains_by : (told base : EndedAs) (as_of growth : ℕ) → IsByPoll trace time trail told base as_of growth
+  contains_by : (told base : PublishedEvent) (as_of growth : ℕ) → IsByPoll trace time trail told base as_of growth
       → IsContained trace (poll_claim time trail told base) (unsigned_abs told.publication.rec.bound + growth) → ContainsTruth trace time
   contains_by told base as_of growth is in_it =
       record {
@@ -232,7 +232,7 @@ module _ (trace : Trace) (can : CanRun trace) (past : List Event) (time : Timed)
         latest = subst (λ (z : ℤ). pos in_it.truth ≤ℤ z) (sym is.latest) in_it.latest;
       }
 
-  kept_poll : (told base : EndedAs) → told_at trail.position past ≡ Some told → told_by told.publication.base past ≡ Some base → fault_of trace (poll_claim time trail told base) ≡ None → ContainsTruth trace time
+  kept_poll : (told base : PublishedEvent) → told_at trail.position past ≡ Some told → told_by told.publication.base past ≡ Some base → fault_of trace (poll_claim time trail told base) ≡ None → ContainsTruth trace time
   kept_poll told base found found_base none =
       let counts : IsCounted trace (poll_claim time trail told base) = counted trace (poll_claim time trail told base) none in
       let is : IsByPoll trace time trail told base (row_at trace.clock base.publication.asked).mono (growth_in told) = by_poll told base found found_base counts.based counts.few in
@@ -244,11 +244,11 @@ module _ (trace : Trace) (can : CanRun trace) (past : List Event) (time : Timed)
   image_fails : fault_of trace (image_claim time trail) ≡ None → ContainsTruth trace time
   image_fails none = let based = (counted trace (image_claim time trail) none).based in absurd (omega (arith, based))
 
-  kept_by_base : (told : EndedAs) (base : Option EndedAs) → told_at trail.position past ≡ Some told → told_by told.publication.base past ≡ base → fault_of trace (claim_by_base time trail told base) ≡ None → ContainsTruth trace time
+  kept_by_base : (told : PublishedEvent) (base : Option PublishedEvent) → told_at trail.position past ≡ Some told → told_by told.publication.base past ≡ base → fault_of trace (claim_by_base time trail told base) ≡ None → ContainsTruth trace time
   kept_by_base told None found found_base none = image_fails none
   kept_by_base told (Some base) found found_base none = kept_poll told base found found_base none
 
-  kept_by : (told : Option EndedAs) → told_at trail.position past ≡ told → fault_of trace (claim_by past time trail told) ≡ None → ContainsTruth trace time
+  kept_by : (told : Option PublishedEvent) → told_at trail.position past ≡ told → fault_of trace (claim_by past time trail told) ≡ None → ContainsTruth trace time
   kept_by None found none = image_fails none
   kept_by (Some told) found none = kept_by_base told (told_by told.publication.base past) found refl none
 

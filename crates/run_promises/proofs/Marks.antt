@@ -19,7 +19,7 @@ use Rattle.status_machine.proofs.LookBack.{absorbs, absorbed_none, is_absorbed-a
 use Rattle.abstract_run.specs.declared.event.Event.{Event}
 use Rattle.abstract_run.specs.declared.event.Event.TheVariants.{Published}
 use Rattle.abstract_run.specs.RunDaemon.{Life}
-use Rattle.abstract_run.specs.RunFacts.{EndedAs, told_by, AllEarlier}
+use Rattle.abstract_run.specs.RunFacts.{PublishedEvent, told_by, AllEarlier}
 use Rattle.abstract_run.specs.RunHost.{marker_by}
 use Rattle.abstract_run.proofs.RunFactsBases.{told_below, other_found}
 use Rattle.run_promises.specs.Told.{marker_at, IsMarkOf}
@@ -109,11 +109,11 @@ some_marker : (trace : Trace) (one other : ℕ) (page : Option (List ℕ)) → i
 some_marker trace one other None = refl
 some_marker trace one other (Some page) = refl
 
-own_found : (test : Bool) (one : EndedAs) (rest : Option EndedAs) → test ≡ true → (if test then Some one else rest) ≡ Some one
+own_found : (test : Bool) (one : PublishedEvent) (rest : Option PublishedEvent) → test ≡ true → (if test then Some one else rest) ≡ Some one
 own_found test one rest on = rw on refl
 
 module _ (trace : Trace) (past : List Event) (position : ℕ) (publication : Publication) (marked_at replied_at : ℕ) where
-  abbrev one : EndedAs
+  abbrev one : PublishedEvent
   one = record { position = position; publication = publication; marked_at = marked_at; replied_at = replied_at }
 
   abbrev more : List Event

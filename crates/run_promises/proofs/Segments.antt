@@ -9,7 +9,7 @@ use Rattle.segment_layout.specs.declared.publication.Publication.{Publication}
 use Rattle.segment_run.specs.SegmentRun.{no_publication}
 use Rattle.abstract_run.specs.declared.event.Event.{Event}
 use Rattle.abstract_run.specs.declared.event.Event.TheVariants.{Opened, Moved, Published, Skipped, Stopped, Answered}
-use Rattle.abstract_run.specs.RunFacts.{EndedAs, told_at}
+use Rattle.abstract_run.specs.RunFacts.{PublishedEvent, told_at}
 
 -- ---- the publications of a history, after a position
 
@@ -65,17 +65,17 @@ newest base history position publication known =
 
 -- ---- the publication that is told of a position
 
-entry_by : (base : ℕ) (history : List Publication) (n position : ℕ) (test : Bool) (one told : EndedAs) (rest : Option EndedAs) → (position == n) ≡ test → IsEntry base history position one.publication
+entry_by : (base : ℕ) (history : List Publication) (n position : ℕ) (test : Bool) (one told : PublishedEvent) (rest : Option PublishedEvent) → (position == n) ≡ test → IsEntry base history position one.publication
     → (rest ≡ Some told → IsEntry base history n told.publication) → (if test then Some one else rest) ≡ Some told → IsEntry base history n told.publication
 entry_by base history n position true one told rest at own later is = elim (cases_eq position n) [
   | inl same ↦
       (let this : one ≡ told = cc is in
-      subst (λ (e : EndedAs). IsEntry base history n e.publication) this (subst (λ (k : ℕ). IsEntry base history k one.publication) same own))
+      subst (λ (e : PublishedEvent). IsEntry base history n e.publication) this (subst (λ (k : ℕ). IsEntry base history k one.publication) same own))
   | inr differs ↦ (let off : (position == n) ≡ false = grind (arith, nat_tests, differs) in absurd (cc (at, off)))
 ]
 entry_by base history n position false one told rest at own later is = later is
 
-pub told_stands : (base : ℕ) (history : List Publication) (n : ℕ) (past : List Event) (told : EndedAs) → AllStand base history past → told_at n past ≡ Some told → IsEntry base history n told.publication
+pub told_stands : (base : ℕ) (history : List Publication) (n : ℕ) (past : List Event) (told : PublishedEvent) → AllStand base history past → told_at n past ≡ Some told → IsEntry base history n told.publication
 told_stands base history n [] told stand is = absurd (cc is)
 told_stands base history n (Opened poll start ∷ past) told stand is = told_stands base history n past told stand is
 told_stands base history n (Moved poll position generation ∷ past) told stand is = told_stands base history n past told stand is

@@ -13,7 +13,7 @@ use Rattle.interval_now.specs.declared.answers.Timed.{Timed}
 use Rattle.abstract_run.specs.declared.event.Event.{Event}
 use Rattle.abstract_run.specs.declared.event.Event.TheVariants.{Answered}
 use Rattle.abstract_run.specs.declared.event.Trail.{Trail}
-use Rattle.abstract_run.specs.RunFacts.{EndedAs, told_at, told_by, given_by}
+use Rattle.abstract_run.specs.RunFacts.{PublishedEvent, told_at, told_by, given_by}
 use Rattle.abstract_run.specs.Given.{CanRun}
 use Rattle.promise_judge.specs.Positions.{position_of}
 use Rattle.promise_judge.specs.Containment.{IsTrusted}
@@ -34,7 +34,7 @@ image_claim time trail =
     record { inside = trail.inside; base = 0; bound = 0; second = 0; marked_at = 0; row = time.row; mark_at = trail.mark_at }
 
 -- by the publication that made its position, and that of the poll which gave the base
-abbrev pub poll_claim : Timed → Trail → (told base : EndedAs) → Claim
+abbrev pub poll_claim : Timed → Trail → (told base : PublishedEvent) → Claim
 poll_claim time trail told base =
     record {
       inside = trail.inside;
@@ -46,11 +46,11 @@ poll_claim time trail told base =
       mark_at = trail.mark_at;
     }
 
-abbrev pub claim_by_base : Timed → Trail → (told : EndedAs) → (base : Option EndedAs) → Claim
+abbrev pub claim_by_base : Timed → Trail → (told : PublishedEvent) → (base : Option PublishedEvent) → Claim
 claim_by_base time trail told None = image_claim time trail
 claim_by_base time trail told (Some base) = poll_claim time trail told base
 
-abbrev pub claim_by : List Event → Timed → Trail → (told : Option EndedAs) → Claim
+abbrev pub claim_by : List Event → Timed → Trail → (told : Option PublishedEvent) → Claim
 claim_by past time trail None = image_claim time trail
 claim_by past time trail (Some told) = claim_by_base time trail told (told_by told.publication.base past)
 
@@ -106,12 +106,12 @@ EachTrusted Holds (event ∷ past) = EachTrusted Holds past
 -- its claim fits the rows, where a poll gave the base; that poll was published
 abbrev pub FitsJudge : Trace → List Event → Timed → Trail → Type 0
 FitsJudge trace past time trail =
-    (told : EndedAs) → told_at trail.position past ≡ Some told → 0 < told.publication.base
-    → (base : EndedAs) × (told_by told.publication.base past ≡ Some base) × FitsRows trace (poll_claim time trail told base)
+    (told : PublishedEvent) → told_at trail.position past ≡ Some told → 0 < told.publication.base
+    → (base : PublishedEvent) × (told_by told.publication.base past ≡ Some base) × FitsRows trace (poll_claim time trail told base)
 
 -- its interval reaches as far from the real time of its clock row as the record's bound, and the drift since as-of, which is the first
 -- reading of the base poll; and the client saw the marker that the base poll had seen
-pub record IsByPoll (trace : Trace) (time : Timed) (trail : Trail) (told base : EndedAs) (as_of growth : ℕ) : Type 0 where
+pub record IsByPoll (trace : Trace) (time : Timed) (trail : Trail) (told base : PublishedEvent) (as_of growth : ℕ) : Type 0 where
   -- what the poll's reply gives
   pub gives : given_by trace base.publication ≡ Some (record { as_of = told.publication.rec.as_of; bound = told.publication.rec.bound; poll = told.publication.base })
   pub begins : told.publication.rec.as_of ≡ pos as_of
@@ -126,14 +126,14 @@ pub record IsByPoll (trace : Trace) (time : Timed) (trail : Trail) (told base : 
 -- so it is with fewer publications inside its read than a period
 abbrev pub FollowsPoll : Trace → List Event → Timed → Trail → Type 0
 FollowsPoll trace past time trail =
-    (told : EndedAs) → told_at trail.position past ≡ Some told → 0 < told.publication.base → trail.inside < period_of trace.layout
-    → (base : EndedAs) × (told_by told.publication.base past ≡ Some base) × ((as_of : ℕ) × ((growth : ℕ) × IsByPoll trace time trail told base as_of growth))
+    (told : PublishedEvent) → told_at trail.position past ≡ Some told → 0 < told.publication.base → trail.inside < period_of trace.layout
+    → (base : PublishedEvent) × (told_by told.publication.base past ≡ Some base) × ((as_of : ℕ) × ((growth : ℕ) × IsByPoll trace time trail told base as_of growth))
 
 -- of a run that begins on an image without a record: no more publications lie inside a read than the trace has polls, and with fewer
 -- than a period a poll gave the base
 pub record HasPoll (trace : Trace) (past : List Event) (time : Timed) (trail : Trail) : Type 0 where
   pub few : trail.inside ≤ length trace.polls
-  pub based : trail.inside < period_of trace.layout → (told : EndedAs) × (told_at trail.position past ≡ Some told) × (0 < told.publication.base)
+  pub based : trail.inside < period_of trace.layout → (told : PublishedEvent) × (told_at trail.position past ≡ Some told) × (0 < told.publication.base)
 
 -- the truth of its clock row is told, and lies in its interval
 pub record ContainsTruth (trace : Trace) (time : Timed) : Type 0 where

@@ -5,7 +5,7 @@ use Rattle.clock_gate.specs.declared.trace.Trace.{Trace}
 use Rattle.segment_run.specs.SegmentRun.{SegmentRun, published_at}
 use Rattle.abstract_run.specs.declared.event.Event.{Event}
 use Rattle.abstract_run.specs.Run.{start, turns_by}
-use Rattle.abstract_run.specs.RunFacts.{EndedAs, told_at, AllTell, AllBased}
+use Rattle.abstract_run.specs.RunFacts.{PublishedEvent, told_at, AllTell, AllBased}
 use Rattle.abstract_run.specs.RunWhole.{run_of}
 use Rattle.abstract_run.specs.Given.{CanRun}
 use Rattle.run_promises.specs.Told.{AllMarked}
@@ -23,7 +23,7 @@ WholeRunIsRun = (trace : Trace) → IsRunOf trace (run_of trace).events
 -- the last publication that is told of a position is the one that the segment has there; where none is told, the position is the
 -- image's or one that its record was moved to, and no poll gave the base
 pub record TellsSegment (segment : SegmentRun) (past : List Event) : Type 0 where
-  pub made : (n : ℕ) (told : EndedAs) → told_at n past ≡ Some told → published_at segment n ≡ told.publication
+  pub made : (n : ℕ) (told : PublishedEvent) → told_at n past ≡ Some told → published_at segment n ≡ told.publication
   pub others : (n : ℕ) → segment.base < n → n ≤ segment.position → told_at n past ≡ None → (published_at segment n).base ≡ 0
 
 abbrev pub RunsTellSegment : Type 0

@@ -17,7 +17,7 @@ use Rattle.interval_now.specs.Interval.{interval_of}
 use Rattle.abstract_run.specs.declared.event.Event.{Event}
 use Rattle.abstract_run.specs.declared.event.Event.TheVariants.{Moved, Published, Answered}
 use Rattle.abstract_run.specs.declared.event.Trail.{Trail}
-use Rattle.abstract_run.specs.RunFacts.{EndedAs, told_at, told_by}
+use Rattle.abstract_run.specs.RunFacts.{PublishedEvent, told_at, told_by}
 use Rattle.abstract_run.specs.RunHost.{marker_by}
 
 -- the page's marker when so many rows of the host were done, where there is a page
@@ -35,7 +35,7 @@ pub record IsMarked (trace : Trace) (rec : RecordFields) (marked_at : ℕ) : Typ
 
 -- this poll was published, and this marker stood in the page at its marker load
 pub record IsMarkOf (trace : Trace) (past : List Event) (poll : ℕ) (marker : Option ℕ) : Type 0 where
-  pub told : EndedAs
+  pub told : PublishedEvent
   pub found : told_by poll past ≡ Some told
   pub same : marker ≡ marker_at trace told.marked_at
 
@@ -67,7 +67,7 @@ pub record PublicationTells (trace : Trace) (past : List Event) (publication : P
 -- its clock row, and by the marker that stood in the page at its marker load
 abbrev pub IsByPublication : Trace → List Event → Timed → Trail → Type 0
 IsByPublication trace past time trail =
-    (told : EndedAs) → told_at trail.position past ≡ Some told → trail.inside < period_of trace.layout
+    (told : PublishedEvent) → told_at trail.position past ≡ Some told → trail.inside < period_of trace.layout
     → interval_of told.publication.rec (row_at trace.clock time.row).mono (row_at trace.clock time.row).real (marker_at trace trail.mark_at) ≡ Ok time.interval
 
 abbrev pub AnswerTells : Trace → List Event → Answer → Option Trail → Type 0

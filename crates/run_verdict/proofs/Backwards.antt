@@ -1,7 +1,7 @@
 -- One event further back.
 use Rattle.std.proofs.Common.{◌≡◌, ◌<◌, ◌+◌, ◌-◌, ◌==◌, ◌∷◌, ℕ, zero, suc, true, false, List, slice_index_or, Some, None, refl, sym, ◌∙◌, ap, subst, arith}
 use Rattle.std.proofs.lemmas.Bool.Decides.{nat_tests}
-use Rattle.abstract_run.specs.RunFacts.{EndedAs}
+use Rattle.abstract_run.specs.RunFacts.{PublishedEvent}
 use Rattle.abstract_run.specs.declared.event.Event.{Event}
 use Rattle.abstract_run.specs.declared.event.Event.TheVariants.{Opened, Moved, Published, Skipped, Stopped, Answered}
 use Rattle.abstract_run.specs.RunFacts.{told_at, told_by}
@@ -43,13 +43,13 @@ base_back n events (suc k) some =
     (base_on n (slice_index_or events k no_event) (past_of events k))
 
 -- looking for a position: the event before the place is its publication, that of another, or none
-pub read_here : (n : ℕ) (events : List Event) (k : ℕ) (ended : EndedAs) → 0 < k
+pub read_here : (n : ℕ) (events : List Event) (k : ℕ) (ended : PublishedEvent) → 0 < k
     → ended_in (slice_index_or events (k - 1) no_event) ≡ Some ended → ended.position ≡ n → told_at n (past_of events k) ≡ Some ended
 read_here n events k ended some here is =
     let test : (ended.position == n) ≡ true = grind (arith, nat_tests, is) in
     read_back n events k some ∙ rw (here, test) refl
 
-pub read_elsewhere : (n : ℕ) (events : List Event) (k : ℕ) (ended : EndedAs) → 0 < k
+pub read_elsewhere : (n : ℕ) (events : List Event) (k : ℕ) (ended : PublishedEvent) → 0 < k
     → ended_in (slice_index_or events (k - 1) no_event) ≡ Some ended → (ended.position ≡ n → ⊥) → told_at n (past_of events k) ≡ told_at n (past_of events (k - 1))
 read_elsewhere n events k ended some here is =
     let test : (ended.position == n) ≡ false = grind (arith, nat_tests, is) in
@@ -60,13 +60,13 @@ pub read_none : (n : ℕ) (events : List Event) (k : ℕ) → 0 < k
 read_none n events k some here = read_back n events k some ∙ rw here refl
 
 -- looking for a poll
-pub base_here : (n : ℕ) (events : List Event) (k : ℕ) (ended : EndedAs) → 0 < k
+pub base_here : (n : ℕ) (events : List Event) (k : ℕ) (ended : PublishedEvent) → 0 < k
     → ended_in (slice_index_or events (k - 1) no_event) ≡ Some ended → ended.publication.poll ≡ n → told_by n (past_of events k) ≡ Some ended
 base_here n events k ended some here is =
     let test : (ended.publication.poll == n) ≡ true = grind (arith, nat_tests, is) in
     base_back n events k some ∙ rw (here, test) refl
 
-pub base_elsewhere : (n : ℕ) (events : List Event) (k : ℕ) (ended : EndedAs) → 0 < k
+pub base_elsewhere : (n : ℕ) (events : List Event) (k : ℕ) (ended : PublishedEvent) → 0 < k
     → ended_in (slice_index_or events (k - 1) no_event) ≡ Some ended → (ended.publication.poll ≡ n → ⊥) → told_by n (past_of events k) ≡ told_by n (past_of events (k - 1))
 base_elsewhere n events k ended some here is =
     let test : (ended.publication.poll == n) ≡ false = grind (arith, nat_tests, is) in

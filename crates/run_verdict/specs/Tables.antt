@@ -2,12 +2,12 @@
 use Rattle.std.specs.Prelude.{◌≡◌, ℕ, ◌<◌, nat_eq, List, slice_index_or, Option, Some, None}
 use Rattle.std.specs.HashMap.{get}
 use Rattle.abstract_run.specs.declared.event.Event.{Event}
-use Rattle.abstract_run.specs.RunFacts.{EndedAs, told_at, told_by}
+use Rattle.abstract_run.specs.RunFacts.{PublishedEvent, told_at, told_by}
 use Rattle.run_verdict.specs.declared.past.Past.{Past}
 use Rattle.run_verdict.specs.Past.{no_event, past_of, ended_in}
 
 -- the publication at a place, where there is one
-abbrev pub ended_at : List Event → Option ℕ → Option EndedAs
+abbrev pub ended_at : List Event → Option ℕ → Option PublishedEvent
 ended_at events None = None
 ended_at events (Some at) = ended_in (slice_index_or events at no_event)
 

@@ -16,9 +16,9 @@ pub struct Ended {
 }
 
 impl Model for Ended {
-    ghost use Rattle.abstract_run.specs.RunFacts.{EndedAs};
+    ghost use Rattle.abstract_run.specs.RunFacts.{PublishedEvent};
 
-    ghost Value = { EndedAs };
+    ghost Value = { PublishedEvent };
 
     ghost view = { λ e. record { position = e.position; publication = e.publication; marked_at = e.marked_at; replied_at = e.replied_at } };
 

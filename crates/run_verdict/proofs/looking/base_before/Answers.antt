@@ -1,6 +1,6 @@
 use Rattle.std.proofs.Common.{◌≡◌, ◌-◌, slice_index_or, Some, None, sym, ◌∙◌, ap, arith}
 use Rattle.std.proofs.lemmas.List.{get_or_default}
-use Rattle.abstract_run.specs.RunFacts.{EndedAs}
+use Rattle.abstract_run.specs.RunFacts.{PublishedEvent}
 use Rattle.run_verdict.specs.Past.{no_event, ended_in}
 use Rattle.run_verdict.proofs.Backwards.{base_here, base_elsewhere, base_none}
 use Rattle.run_verdict.proofs.looking.base_before.Goals as goal
@@ -8,13 +8,13 @@ use Rattle.run_verdict.proofs.looking.base_before.Goals as goal
 pub returns-then-ended-poll : goal.returns-then-ended-poll
 returns-then-ended-poll c =
     let is : ended_in (slice_index_or c.args.events.now (c.back.left - 1) no_event) ≡ Some c.in-Some.ended = ap ended_in (get_or_default c.args.events.now (c.back.left - 1) no_event c.index-events-left.result (omega (arith, c.back-test.true, c.back.invariant.0, c.requires)) ∙ sym c.index-events-left.is) ∙ sym c.ended_in.ensures ∙ c.in-Some.is in
-    sym (base_here c.args.poll c.args.events.now c.back.left c.in-Some.ended c.back-test.true is (sym (ap (λ (e : EndedAs). e.publication.poll) c.ended.view_is) ∙ c.if-ended-poll.true)) ∙ c.back.invariant.1
+    sym (base_here c.args.poll c.args.events.now c.back.left c.in-Some.ended c.back-test.true is (sym (ap (λ (e : PublishedEvent). e.publication.poll) c.ended.view_is) ∙ c.if-ended-poll.true)) ∙ c.back.invariant.1
 
 pub back-preserved-else-ended-poll : goal.back-preserved-else-ended-poll
 back-preserved-else-ended-poll c =
     let is : ended_in (slice_index_or c.args.events.now (c.back.left - 1) no_event) ≡ Some c.in-Some.ended = ap ended_in (get_or_default c.args.events.now (c.back.left - 1) no_event c.index-events-left.result (omega (arith, c.back-test.true, c.back.invariant.0, c.requires)) ∙ sym c.index-events-left.is) ∙ sym c.ended_in.ensures ∙ c.in-Some.is in (
       omega (arith, c.back.invariant.0),
-      sym (base_elsewhere c.args.poll c.args.events.now c.back.left c.in-Some.ended c.back-test.true is (λ same. c.if-ended-poll.false (ap (λ (e : EndedAs). e.publication.poll) c.ended.view_is ∙ same))) ∙ c.back.invariant.1,
+      sym (base_elsewhere c.args.poll c.args.events.now c.back.left c.in-Some.ended c.back-test.true is (λ same. c.if-ended-poll.false (ap (λ (e : PublishedEvent). e.publication.poll) c.ended.view_is ∙ same))) ∙ c.back.invariant.1,
     )
 
 pub back-preserved : goal.back-preserved
