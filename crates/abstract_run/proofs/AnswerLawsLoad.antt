@@ -13,11 +13,11 @@ use Rattle.interval_now.specs.declared.answers.Causality.{Causality}
 use Rattle.interval_now.specs.declared.answers.Answer.{Answer}
 use Rattle.interval_now.specs.declared.answers.Answer.TheVariants as answers
 use Rattle.interval_now.specs.Interval.{interval_of}
-use Rattle.abstract_run.specs.RunHost.{HostRun, clocks_at, page_shown, marker_of, sequence_of}
-use Rattle.abstract_run.specs.RunPage.{PageAfter, Looks, Saw, Missed, page_load, is_marker_next}
-use Rattle.abstract_run.specs.RunDaemon.{marked_by}
-use Rattle.abstract_run.specs.RunClient as run_client
-use Rattle.abstract_run.specs.RunClient.{SegmentTry, SegmentReading, Reads, IsWhole, Unpublished, AllFailed, segment_try_fails, segment_last_load, segment_load_by, segment_reading, Clocked, CallStage, Reading, Clocking, Paging, Answered, CallAfter, Goes, Answers, CallRun, ClientRun}
+use Rattle.abstract_run.specs.HostRun.{HostRun, clocks_at, page_shown, marker_of, sequence_of}
+use Rattle.abstract_run.specs.PageReading.{PageAfter, Looks, Saw, Missed, page_load, is_marker_next}
+use Rattle.abstract_run.specs.DaemonRun.{marked_by}
+use Rattle.abstract_run.specs.ClientRun as run_client
+use Rattle.abstract_run.specs.ClientRun.{SegmentTry, SegmentReading, Reads, IsWhole, Unpublished, AllFailed, segment_try_fails, segment_last_load, segment_load_by, segment_reading, Clocked, CallStage, Reading, Clocking, Paging, Answered, CallAfter, Goes, Answers, CallRun, ClientRun}
 use Rattle.abstract_run.specs.NextLoad.{next_call, begun_read, read_at, next_read, first_number}
 
 -- ---- one load of a call: the tries that are not left have failed

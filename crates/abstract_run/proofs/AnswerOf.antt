@@ -16,12 +16,12 @@ use Rattle.interval_now.specs.declared.answers.Answer.{Answer}
 use Rattle.interval_now.specs.declared.answers.Answer.TheVariants as answers
 use Rattle.interval_now.specs.Interval.{interval_of}
 use Rattle.abstract_run.specs.declared.event.Trail.{Trail}
-use Rattle.abstract_run.specs.RunHost.{HostRun, PageShown, clocks_at, pages_at, page_shown, marker_of, sequence_of}
-use Rattle.abstract_run.specs.RunPage.{PageTry, PageReading, PageAfter, Looks, Saw, Missed, page_try_fails, page_load_by, page_last_load, page_load, is_marker_next}
-use Rattle.abstract_run.specs.RunDaemon.{marked_by}
-use Rattle.abstract_run.specs.RunClient as run_client
-use Rattle.abstract_run.specs.RunClient.{SegmentTry, SegmentReading, SegmentAfter, Reads, IsWhole, Unpublished, AllFailed, segment_try_fails, segment_load, segment_load_by, segment_last_load, WholeRead, Clocked, CallStage, Reading, Clocking, Paging, CallAfter, Goes, Answers}
-use Rattle.abstract_run.specs.RunHost.{marker_by, sequence_by}
+use Rattle.abstract_run.specs.HostRun.{HostRun, PageShown, clocks_at, pages_at, page_shown, marker_of, sequence_of}
+use Rattle.abstract_run.specs.PageReading.{PageTry, PageReading, PageAfter, Looks, Saw, Missed, page_try_fails, page_load_by, page_last_load, page_load, is_marker_next}
+use Rattle.abstract_run.specs.DaemonRun.{marked_by}
+use Rattle.abstract_run.specs.ClientRun as run_client
+use Rattle.abstract_run.specs.ClientRun.{SegmentTry, SegmentReading, SegmentAfter, Reads, IsWhole, Unpublished, AllFailed, segment_try_fails, segment_load, segment_load_by, segment_last_load, WholeRead, Clocked, CallStage, Reading, Clocking, Paging, CallAfter, Goes, Answers}
+use Rattle.abstract_run.specs.HostRun.{marker_by, sequence_by}
 use Rattle.abstract_run.proofs.SegmentReads.{begun_try, longer_try, whole_read}
 
 -- ---- what is said of an answer

@@ -11,10 +11,10 @@ use Rattle.status_machine.specs.declared.poll.Poll.{Poll}
 use Rattle.segment_run.specs.SegmentRun.{SegmentRun, number_shown, opening_effect, opening_length, headed, opened_update, moved_once, stored, stored_by, is_old, start_found, one_store_more}
 use Rattle.abstract_run.specs.declared.event.Event.{Event}
 use Rattle.abstract_run.specs.declared.event.Event.TheVariants as events
-use Rattle.abstract_run.specs.RunHost.{HostRun, clocks_at, page_shown}
-use Rattle.abstract_run.specs.RunPage.{PageAfter, Looks, Saw, Missed, page_load, is_marker_next}
-use Rattle.abstract_run.specs.RunDaemon as run_daemon
-use Rattle.abstract_run.specs.RunDaemon.{Life, Asked, Storing, Work, Resting, Opening, Asking, Looking, Taking, Writing, DaemonRun, DaemonTurn, daemon_turn, marked_by}
+use Rattle.abstract_run.specs.HostRun.{HostRun, clocks_at, page_shown}
+use Rattle.abstract_run.specs.PageReading.{PageAfter, Looks, Saw, Missed, page_load, is_marker_next}
+use Rattle.abstract_run.specs.DaemonRun as run_daemon
+use Rattle.abstract_run.specs.DaemonRun.{Life, Asked, Storing, Work, Resting, Opening, Asking, Looking, Taking, Writing, DaemonRun, DaemonTurn, daemon_turn, marked_by}
 
 -- ---- the daemon's turns tell of no answer, and the position never falls
 

@@ -12,11 +12,11 @@ use Rattle.interval_now.specs.declared.answers.Interval.{Interval}
 use Rattle.interval_now.specs.declared.answers.Causality.{Causality}
 use Rattle.interval_now.specs.Interval.{interval_of}
 use Rattle.abstract_run.specs.declared.limits.TheConstants.{MOST_JOB_STEPS}
-use Rattle.abstract_run.specs.RunHost.{HostRun, clocks_at, page_shown, marker_of, sequence_of}
-use Rattle.abstract_run.specs.RunPage.{PageAfter, Looks, Saw, Missed, page_load}
-use Rattle.abstract_run.specs.RunDaemon.{marked_by}
-use Rattle.abstract_run.specs.RunPage.{is_marker_next}
-use Rattle.abstract_run.specs.RunClient.{SegmentAfter, Reads, IsWhole, Unpublished, AllFailed, segment_load, segment_reading, Clocked, CallStage, Reading, Clocking, Paging, CallAfter, Goes, Answers, CallRun, ClientRun, timed, call_ends, after_segment, clock_by, after_page, call_step, after_step, client_begins, client_turn_by}
+use Rattle.abstract_run.specs.HostRun.{HostRun, clocks_at, page_shown, marker_of, sequence_of}
+use Rattle.abstract_run.specs.PageReading.{PageAfter, Looks, Saw, Missed, page_load}
+use Rattle.abstract_run.specs.DaemonRun.{marked_by}
+use Rattle.abstract_run.specs.PageReading.{is_marker_next}
+use Rattle.abstract_run.specs.ClientRun.{SegmentAfter, Reads, IsWhole, Unpublished, AllFailed, segment_load, segment_reading, Clocked, CallStage, Reading, Clocking, Paging, CallAfter, Goes, Answers, CallRun, ClientRun, timed, call_ends, after_segment, clock_by, after_page, call_step, after_step, client_begins, client_turn_by}
 use Rattle.abstract_run.specs.RunWhole.{in_hand, has_call}
 use Rattle.abstract_run.proofs.EndsPage.{page_left, IsPageNearer, page_nearer, page_some, segment_left, IsSegmentNearer, segment_nearer, segment_some}
 

@@ -11,9 +11,9 @@ use Rattle.segment_layout.specs.declared.start.Start.TheVariants.{Fresh, Kept, T
 use Rattle.status_machine.specs.declared.poll.Poll.{Poll}
 use Rattle.segment_run.specs.SegmentRun.{SegmentRun, opening_length, opening_effect, start_found, is_old, stored}
 use Rattle.abstract_run.specs.declared.event.Event.TheVariants.{Stopped}
-use Rattle.abstract_run.specs.RunHost.{HostRun, clocks_at, page_shown}
-use Rattle.abstract_run.specs.RunPage.{PageAfter, Looks, Saw, Missed, page_reading, page_load, is_marker_next}
-use Rattle.abstract_run.specs.RunDaemon.{Life, Asked, Storing, Work, Resting, Opening, Asking, Looking, Taking, Writing, DaemonRun, no_poll, poll_row, is_move, life_from, opening_ends, opening_step, poll_of, is_stop, stops, published, publication_ends, publication_of, after_stores, store_step, taken, look_by, marked_by, ask_by, poll_begins, next_poll, daemon_turn_by}
+use Rattle.abstract_run.specs.HostRun.{HostRun, clocks_at, page_shown}
+use Rattle.abstract_run.specs.PageReading.{PageAfter, Looks, Saw, Missed, page_reading, page_load, is_marker_next}
+use Rattle.abstract_run.specs.DaemonRun.{Life, Asked, Storing, Work, Resting, Opening, Asking, Looking, Taking, Writing, DaemonRun, no_poll, poll_row, is_move, life_from, opening_ends, opening_step, poll_of, is_stop, stops, published, publication_ends, publication_of, after_stores, store_step, taken, look_by, marked_by, ask_by, poll_begins, next_poll, daemon_turn_by}
 use Rattle.abstract_run.specs.RunWhole.{is_resting, polls_ended, has_poll}
 use Rattle.abstract_run.proofs.EndsPage.{page_left, IsPageNearer, page_nearer, page_some}
 

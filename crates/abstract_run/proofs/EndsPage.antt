@@ -4,9 +4,9 @@ use Rattle.std.specs.Prelude.{◌==◌, ◌||◌, not, nat_le, nat_lt, if◌then
 use Rattle.std.proofs.lemmas.Bool.Decides.{nat_tests}
 use Rattle.segment_layout.specs.History.{last_store}
 use Rattle.segment_run.specs.SegmentRun.{SegmentRun, number_shown, number_at, header_shown}
-use Rattle.abstract_run.specs.RunHost.{PageShown, sequence_of}
-use Rattle.abstract_run.specs.RunPage.{PageTry, PageReading, PageAfter, Looks, Saw, Missed, page_try_fails, page_last_load, page_load_by}
-use Rattle.abstract_run.specs.RunClient.{SegmentTry, SegmentReading, SegmentAfter, Reads, IsWhole, Unpublished, AllFailed, WholeRead, record_read, segment_try_fails, segment_last_load, segment_load_by}
+use Rattle.abstract_run.specs.HostRun.{PageShown, sequence_of}
+use Rattle.abstract_run.specs.PageReading.{PageTry, PageReading, PageAfter, Looks, Saw, Missed, page_try_fails, page_last_load, page_load_by}
+use Rattle.abstract_run.specs.ClientRun.{SegmentTry, SegmentReading, SegmentAfter, Reads, IsWhole, Unpublished, AllFailed, WholeRead, record_read, segment_try_fails, segment_last_load, segment_load_by}
 
 -- ---- a read of the page
 

@@ -12,9 +12,9 @@ use Rattle.clock_gate.specs.declared.trace.Trace.{Trace}
 use Rattle.clock_gate.specs.Trace.{IsLawfulTrace}
 use Rattle.abstract_run.specs.declared.limits.TheConstants.{MOST_JOB_STEPS}
 use Rattle.abstract_run.specs.Schedule as schedule
-use Rattle.abstract_run.specs.RunHost.{HostRun, row_turn}
-use Rattle.abstract_run.specs.RunClient as run_client
-use Rattle.abstract_run.specs.RunClient.{ClientRun}
+use Rattle.abstract_run.specs.HostRun.{HostRun, row_turn}
+use Rattle.abstract_run.specs.ClientRun as run_client
+use Rattle.abstract_run.specs.ClientRun.{ClientRun}
 use Rattle.abstract_run.specs.Run.{Run, turn, tries_for, client_at, client_turn_in, with_client}
 use Rattle.abstract_run.specs.RunWhole.{jobs_ended, has_job, calls_ended, has_call, in_hand}
 use Rattle.abstract_run.proofs.RunClients.{other_at, same_at}

@@ -14,9 +14,9 @@ use Rattle.clock_gate.specs.declared.trace.Trace.{Trace}
 use Rattle.clock_gate.specs.Trace.{IsFrom, IsCallRow, IsLawfulTrace, same_party, times, calls_by, jobs_of}
 use Rattle.abstract_run.specs.declared.limits.TheConstants.{MOST_JOB_STEPS}
 use Rattle.abstract_run.specs.Schedule as schedule
-use Rattle.abstract_run.specs.RunClient as run_client
-use Rattle.abstract_run.specs.RunClient.{CallRun, ClientRun}
-use Rattle.abstract_run.specs.RunDaemon.{DaemonRun}
+use Rattle.abstract_run.specs.ClientRun as run_client
+use Rattle.abstract_run.specs.ClientRun.{CallRun, ClientRun}
+use Rattle.abstract_run.specs.DaemonRun.{DaemonRun}
 use Rattle.abstract_run.specs.Run.{Run, turn, turns_by, start, tries_for, client_start, client_at, client_turn_in}
 use Rattle.abstract_run.specs.RunWhole.{is_resting, polls_ended, has_poll, in_hand, calls_ended, has_call, jobs_ended, has_job, lines_from, run_of}
 use Rattle.abstract_run.specs.RunEnds.{LinesEnd, RunsEnd}

@@ -10,7 +10,7 @@ use Rattle.std.proofs.lemmas.Option.{slice_get_within, get_or_from_slice_get}
 use Rattle.clock_gate.specs.declared.trace.HostRow.{HostRow}
 use Rattle.clock_gate.specs.declared.trace.HostRow.TheVariants.{Clock, Page, Disrupt}
 use Rattle.clock_gate.specs.Trace.{IsHostOf, clock_number, clock_numbers}
-use Rattle.abstract_run.specs.RunHost.{clocks_at, page_in, pages_at, pages_of}
+use Rattle.abstract_run.specs.HostRun.{clocks_at, page_in, pages_at, pages_of}
 
 -- the items up to one, and it
 take_next : {X : Type 0} (xs : List X) (n : ℕ) (x : X) → slice_get xs n ≡ Some x → take (n + 1) xs ≡ take n xs ++ x ∷ []

@@ -2,7 +2,7 @@
 use Rattle.std.proofs.Common.{◌≡◌, ◌≢◌, ℕ, zero, suc, ◌-◌, List, [], ◌∷◌, Some, refl, sym, ap, ◌∙◌, arith}
 use Rattle.std.specs.Prelude.{slice_get, slice_set}
 use Rattle.abstract_run.specs.Run.{client_at}
-use Rattle.abstract_run.specs.RunClient.{ClientRun}
+use Rattle.abstract_run.specs.ClientRun.{ClientRun}
 
 set_same : (clients : List ClientRun) (place : ℕ) (old new : ClientRun) → slice_get clients place ≡ Some old → slice_get (slice_set clients place new) place ≡ Some new
 set_same [] place old new at = absurd (cc at)

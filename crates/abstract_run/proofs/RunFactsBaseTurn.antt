@@ -21,10 +21,10 @@ use Rattle.segment_run.specs.SegmentRun.{SegmentRun, opening_effect, opening_len
 use Rattle.segment_run.proofs.SegmentEnded.{after_update_newest}
 use Rattle.abstract_run.specs.declared.event.Event.{Event}
 use Rattle.abstract_run.specs.declared.event.Event.TheVariants.{Opened, Moved, Published, Skipped, Stopped}
-use Rattle.abstract_run.specs.RunHost.{HostRun, clocks_at, page_shown}
-use Rattle.abstract_run.specs.RunPage.{PageAfter, Looks, Saw, Missed, page_load, is_marker_next}
-use Rattle.abstract_run.specs.RunDaemon as run_daemon
-use Rattle.abstract_run.specs.RunDaemon.{Life, Asked, Storing, Work, Resting, Opening, Asking, Looking, Taking, Writing, DaemonRun, DaemonTurn, daemon_turn, marked_by}
+use Rattle.abstract_run.specs.HostRun.{HostRun, clocks_at, page_shown}
+use Rattle.abstract_run.specs.PageReading.{PageAfter, Looks, Saw, Missed, page_load, is_marker_next}
+use Rattle.abstract_run.specs.DaemonRun as run_daemon
+use Rattle.abstract_run.specs.DaemonRun.{Life, Asked, Storing, Work, Resting, Opening, Asking, Looking, Taking, Writing, DaemonRun, DaemonTurn, daemon_turn, marked_by}
 use Rattle.status_machine.specs.Base.{base_number}
 use Rattle.abstract_run.specs.RunFacts.{PublishedEvent, told_by, AllEarlier, given_by, HasBase, AllBased}
 use Rattle.abstract_run.proofs.RunFactsBases.{AreSame, has_same, BaseHolds, base_same, FitsBase, based_of, has_later}

@@ -10,11 +10,11 @@ use Rattle.interval_now.specs.declared.answers.Interval.{Interval}
 use Rattle.interval_now.specs.declared.answers.Causality.{Causality}
 use Rattle.interval_now.specs.Interval.{interval_of}
 use Rattle.abstract_run.specs.declared.event.Event.{Event}
-use Rattle.abstract_run.specs.RunHost.{HostRun, clocks_at, page_shown, marker_of, sequence_of}
-use Rattle.abstract_run.specs.RunPage.{PageAfter, Looks, Saw, Missed, page_load, is_marker_next}
-use Rattle.abstract_run.specs.RunDaemon.{marked_by}
-use Rattle.abstract_run.specs.RunClient as run_client
-use Rattle.abstract_run.specs.RunClient.{SegmentTry, SegmentReading, SegmentAfter, Reads, IsWhole, Unpublished, AllFailed, segment_try_fails, segment_load_by, segment_last_load, segment_load, segment_reading, Clocked, CallStage, Reading, Clocking, Paging, Answered, CallAfter, Goes, Answers, CallRun, ClientRun, ClientTurn}
+use Rattle.abstract_run.specs.HostRun.{HostRun, clocks_at, page_shown, marker_of, sequence_of}
+use Rattle.abstract_run.specs.PageReading.{PageAfter, Looks, Saw, Missed, page_load, is_marker_next}
+use Rattle.abstract_run.specs.DaemonRun.{marked_by}
+use Rattle.abstract_run.specs.ClientRun as run_client
+use Rattle.abstract_run.specs.ClientRun.{SegmentTry, SegmentReading, SegmentAfter, Reads, IsWhole, Unpublished, AllFailed, segment_try_fails, segment_load_by, segment_last_load, segment_load, segment_reading, Clocked, CallStage, Reading, Clocking, Paging, Answered, CallAfter, Goes, Answers, CallRun, ClientRun, ClientTurn}
 use Rattle.abstract_run.specs.RunFacts.{made_by, StoodAt, TrailTells}
 use Rattle.abstract_run.proofs.SegmentReads.{begun_try, longer_try, whole_read}
 use Rattle.abstract_run.proofs.RunFactsPast.{Stands}

@@ -13,11 +13,11 @@ use Rattle.status_machine.specs.declared.poll.Poll.{Poll}
 use Rattle.segment_run.specs.SegmentRun.{SegmentRun, opening_effect, opening_length, headed, opened_update, moved_once, stored, is_old, start_found, one_store_more, number_shown}
 use Rattle.abstract_run.specs.declared.event.Event.{Event}
 use Rattle.abstract_run.specs.declared.event.Event.TheVariants.{Opened, Published, Skipped, Stopped}
-use Rattle.abstract_run.specs.RunHost.{HostRun, clocks_at, page_shown}
-use Rattle.abstract_run.specs.RunPage as run_page
-use Rattle.abstract_run.specs.RunPage.{PageReading, PageAfter, Looks, Saw, Missed, page_load, is_marker_next}
-use Rattle.abstract_run.specs.RunDaemon as run_daemon
-use Rattle.abstract_run.specs.RunDaemon.{Life, Asked, Storing, Work, Resting, Opening, Asking, Looking, Taking, Writing, DaemonRun, DaemonTurn, daemon_turn, marked_by}
+use Rattle.abstract_run.specs.HostRun.{HostRun, clocks_at, page_shown}
+use Rattle.abstract_run.specs.PageReading as run_page
+use Rattle.abstract_run.specs.PageReading.{PageReading, PageAfter, Looks, Saw, Missed, page_load, is_marker_next}
+use Rattle.abstract_run.specs.DaemonRun as run_daemon
+use Rattle.abstract_run.specs.DaemonRun.{Life, Asked, Storing, Work, Resting, Opening, Asking, Looking, Taking, Writing, DaemonRun, DaemonTurn, daemon_turn, marked_by}
 use Rattle.abstract_run.specs.RunFacts.{made_by, AllEarlier, IsAsked, PublishedTells, StoodAt, AllTell}
 use Rattle.abstract_run.proofs.RunFactsPast.{earlier_more, stood_moved, stood_other, Stands, stands_open, stands_published, stands_moved}
 

@@ -19,10 +19,10 @@ use Rattle.segment_run.specs.SegmentRun.{SegmentRun, segment_by}
 use Rattle.abstract_run.specs.declared.event.Event.{Event}
 use Rattle.abstract_run.specs.declared.event.Event.TheVariants as events
 use Rattle.abstract_run.specs.Run.{Run, turn, start, client_start, with_daemon, with_client, answer_events, client_turn_in}
-use Rattle.abstract_run.specs.RunHost.{HostRun, row_turn, host_turn}
-use Rattle.abstract_run.specs.RunDaemon.{Work, Resting, Opening, Asking, Looking, Taking, Writing, DaemonRun, DaemonTurn, daemon_turn}
-use Rattle.abstract_run.specs.RunClient as run_client
-use Rattle.abstract_run.specs.RunClient.{Answered, ClientRun}
+use Rattle.abstract_run.specs.HostRun.{HostRun, row_turn, host_turn}
+use Rattle.abstract_run.specs.DaemonRun.{Work, Resting, Opening, Asking, Looking, Taking, Writing, DaemonRun, DaemonTurn, daemon_turn}
+use Rattle.abstract_run.specs.ClientRun as run_client
+use Rattle.abstract_run.specs.ClientRun.{Answered, ClientRun}
 use Rattle.abstract_run.specs.RunWhole.{run_of}
 use Rattle.abstract_run.specs.RunFacts.{is_kept_at, AllTell}
 use Rattle.abstract_run.proofs.RunKeeps.{run_keeps}

@@ -5,7 +5,7 @@ use Rattle.clock_gate.specs.declared.trace.Trace.{Trace}
 use Rattle.segment_layout.specs.declared.publication.Publication.{Publication}
 use Rattle.abstract_run.specs.declared.event.Event.{Event}
 use Rattle.abstract_run.specs.declared.event.Event.TheVariants.{Opened, Moved, Published, Skipped, Stopped, Answered}
-use Rattle.abstract_run.specs.RunHost.{clocks_at}
+use Rattle.abstract_run.specs.HostRun.{clocks_at}
 use Rattle.abstract_run.specs.RunFacts.{PublishedEvent, told_at, told_by, AllEarlier, IsAsked, PublishedTells, HasBase, AllTell, AllBased}
 use Rattle.abstract_run.proofs.RunFactsBases.{has_same, has_later}
 

@@ -15,9 +15,9 @@ use Rattle.segment_run.proofs.SegmentStart.{kept_number}
 use Rattle.abstract_run.specs.declared.event.Event.{Event}
 use Rattle.abstract_run.specs.declared.event.Event.TheVariants as events
 use Rattle.abstract_run.specs.Run.{Run, turn, start, with_client, answer_events, client_turn_in}
-use Rattle.abstract_run.specs.RunDaemon.{DaemonRun, daemon_turn}
-use Rattle.abstract_run.specs.RunClient as run_client
-use Rattle.abstract_run.specs.RunClient.{Answered, ClientRun, ClientTurn}
+use Rattle.abstract_run.specs.DaemonRun.{DaemonRun, daemon_turn}
+use Rattle.abstract_run.specs.ClientRun as run_client
+use Rattle.abstract_run.specs.ClientRun.{Answered, ClientRun, ClientTurn}
 use Rattle.abstract_run.specs.RunWhole.{run_of}
 use Rattle.abstract_run.specs.RunFacts.{RunsTell}
 use Rattle.abstract_run.proofs.RunKeeps.{run_keeps}

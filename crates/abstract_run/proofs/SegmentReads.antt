@@ -2,7 +2,7 @@
 use Rattle.std.proofs.Common.{◌+◌, ◌-◌, [], ◌∷◌, ◌++◌, length}
 use Rattle.segment_layout.specs.History.{last_store}
 use Rattle.segment_run.specs.SegmentRun.{SegmentRun, header_shown, number_at}
-use Rattle.abstract_run.specs.RunClient.{SegmentTry, WholeRead, record_read}
+use Rattle.abstract_run.specs.ClientRun.{SegmentTry, WholeRead, record_read}
 
 -- the try that a first load begins
 abbrev pub begun_try : SegmentRun → SegmentTry

@@ -1,9 +1,9 @@
 pub mod Given
 pub mod Schedule
-pub mod RunHost
-pub mod RunPage
-pub mod RunDaemon
-pub mod RunClient
+pub mod HostRun
+pub mod PageReading
+pub mod DaemonRun
+pub mod ClientRun
 pub mod Run
 pub mod RunWhole
 pub mod NextLoad

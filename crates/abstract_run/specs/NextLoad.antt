@@ -1,7 +1,7 @@
 -- The load that a client's next turn makes, and when it fails a try of the segment.
 use Rattle.std.specs.Prelude.{◌≡◌, ◌≢◌, ℕ, ◌+◌, true, List, [], ◌∷◌, length, Option, Some, None}
 use Rattle.segment_run.specs.SegmentRun.{SegmentRun, header_shown, number_shown, number_at}
-use Rattle.abstract_run.specs.RunClient.{SegmentTry, SegmentReading, segment_reading, CallStage, Reading, CallRun}
+use Rattle.abstract_run.specs.ClientRun.{SegmentTry, SegmentReading, segment_reading, CallStage, Reading, CallRun}
 
 -- the number of the call that a client's next turn belongs to
 abbrev pub next_call : (begun : ℕ) → Option CallRun → ℕ

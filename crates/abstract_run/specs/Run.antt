@@ -10,9 +10,9 @@ use Rattle.vmclock_page.specs.Host.{count_of}
 use Rattle.segment_run.specs.SegmentRun.{SegmentRun, segment_start}
 use Rattle.abstract_run.specs.declared.event.Event.{Event}
 use Rattle.abstract_run.specs.declared.event.Event.TheVariants as events
-use Rattle.abstract_run.specs.RunHost.{HostRun, host_start, host_turn}
-use Rattle.abstract_run.specs.RunDaemon.{DaemonRun, DaemonTurn, daemon_start, daemon_turn}
-use Rattle.abstract_run.specs.RunClient.{ClientRun, ClientTurn, Answered, client_turn}
+use Rattle.abstract_run.specs.HostRun.{HostRun, host_start, host_turn}
+use Rattle.abstract_run.specs.DaemonRun.{DaemonRun, DaemonTurn, daemon_start, daemon_turn}
+use Rattle.abstract_run.specs.ClientRun.{ClientRun, ClientTurn, Answered, client_turn}
 
 pub record Run : Type 0 where
   pub host : HostRun

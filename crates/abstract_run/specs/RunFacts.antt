@@ -15,8 +15,8 @@ use Rattle.interval_now.specs.declared.answers.Timed.{Timed}
 use Rattle.abstract_run.specs.declared.event.Event.{Event}
 use Rattle.abstract_run.specs.declared.event.Event.TheVariants.{Moved, Published, Answered}
 use Rattle.abstract_run.specs.declared.event.Trail.{Trail}
-use Rattle.abstract_run.specs.RunHost.{clocks_at}
-use Rattle.abstract_run.specs.RunDaemon.{no_poll}
+use Rattle.abstract_run.specs.HostRun.{clocks_at}
+use Rattle.abstract_run.specs.DaemonRun.{no_poll}
 use Rattle.abstract_run.specs.RunWhole.{run_of}
 use Rattle.abstract_run.specs.Given.{CanRun}
 

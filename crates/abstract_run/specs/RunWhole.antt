@@ -6,8 +6,8 @@ use Rattle.clock_gate.specs.declared.trace.PollRow.{PollRow}
 use Rattle.clock_gate.specs.declared.trace.Trace.{Trace}
 use Rattle.abstract_run.specs.Schedule as schedule
 use Rattle.abstract_run.specs.Run.{Run, start, turn, client_at}
-use Rattle.abstract_run.specs.RunDaemon.{Work, Resting, DaemonRun}
-use Rattle.abstract_run.specs.RunClient.{ClientRun}
+use Rattle.abstract_run.specs.DaemonRun.{Work, Resting, DaemonRun}
+use Rattle.abstract_run.specs.ClientRun.{ClientRun}
 
 -- ---- the jobs of the daemon: its polls
 

@@ -18,7 +18,7 @@ use Rattle.status_machine.specs.declared.base.Base.{Base}
 use Rattle.status_machine.specs.declared.heard.Heard.TheVariants.{Reply}
 use Rattle.status_machine.specs.declared.poll.Poll.{Poll}
 use Rattle.status_machine.specs.Poll.{base_of_good, base_of_heard, base_of_poll, heard_by, heard_of}
-use Rattle.abstract_run.specs.RunDaemon.{no_poll}
+use Rattle.abstract_run.specs.DaemonRun.{no_poll}
 use Rattle.abstract_run.specs.RunFacts.{given_by}
 use Rattle.day_runs.specs.Kept.{least_bound, units_of}
 use Rattle.day_runs.proofs.Kept.{replies_bound}

@@ -14,7 +14,7 @@ use Rattle.segment_layout.specs.declared.publication.Publication.{Publication}
 use Rattle.segment_layout.specs.declared.start.Start.{Start}
 use Rattle.segment_layout.specs.declared.start.Start.TheVariants.{Fresh, Kept, Torn}
 use Rattle.segment_layout.specs.History.{start_seen}
-use Rattle.segment_layout.specs.Image.{image_of}
+use Rattle.segment_layout.specs.Image.{image_of, is_old_header}
 use Rattle.segment_layout.specs.Record.{RecordFields}
 use Rattle.status_machine.specs.declared.poll.Poll.{Poll}
 use Rattle.status_machine.specs.Incarnation.{Incarnation, base_at, record_at}
@@ -84,11 +84,7 @@ next_generation trace course = generation_at (period_of trace.layout) (course.po
 abbrev pub start_found : Trace → Course → Start
 start_found trace course = start_seen trace.layout (segment_at course.point) (last_entry course).rec
 
--- the header of the image is of version 2, in a run of layout 3
-abbrev pub is_old_in : Layout → ℕ → Bool
-is_old_in Two header = false
-is_old_in Three header = (header_of header).1 == 2
-
+-- a record stands there
 abbrev pub keeps : Start → Bool
 keeps Fresh = false
 keeps (Torn generation) = false
@@ -97,7 +93,7 @@ keeps (Kept generation rec) = true
 -- the opening moves the segment: it is the first, and finds a record under an old header
 abbrev pub is_move : Trace → Course → Bool
 is_move trace course =
-    (course.polled == 0) && (is_old_in trace.layout (slice_index trace.image 1) && keeps (start_found trace course))
+    (course.polled == 0) && (is_old_header trace.layout (slice_index trace.image 1) && keeps (start_found trace course))
 
 abbrev pub life_from : Trace → Start → ℕ → Life
 life_from trace start base =

@@ -6,7 +6,7 @@ use Rattle.interval_now.specs.declared.answers.Timed.{Timed}
 use Rattle.abstract_run.specs.declared.event.Event.{Event}
 use Rattle.abstract_run.specs.declared.event.Trail.{Trail}
 use Rattle.abstract_run.specs.RunFacts.{PublishedEvent}
-use Rattle.abstract_run.specs.RunHost.{clocks_at}
+use Rattle.abstract_run.specs.HostRun.{clocks_at}
 use Rattle.abstract_run.specs.Given.{CanRun}
 use Rattle.promise_judge.specs.Containment as judge
 use Rattle.kept_promises.specs.Kept.{ArePromisesKept}

@@ -13,7 +13,8 @@ use Rattle.lawful_report.specs.declared.entry.Entry.{Entry}
 use Rattle.lawful_report.specs.declared.call.Call.{Call}
 use Rattle.lawful_report.specs.declared.seen.Seen.{Seen}
 use Rattle.lawful_report.specs.Calls.{seen_first}
-use Rattle.lawful_report.specs.Course.{Life, is_old_in, keeps}
+use Rattle.segment_layout.specs.Image.{is_old_header}
+use Rattle.lawful_report.specs.Course.{Life, keeps}
 use Rattle.lawful_report.specs.Lawful.{Moving, Polling, seen_before}
 use Rattle.report_audit.specs.Auditor.{ShowsLife}
 use Rattle.lawful_report.specs.Points.{segment_at}
@@ -36,7 +37,7 @@ pub resumed : (s t : Start) (drift : ℕ) (a b : Bool) (m n : ℕ) (daemon : Dae
 resumed s t drift a b m n daemon starts supports bases shows =
     subst (λ (k : ℕ). ShowsPast (incarnation t drift b k) [] daemon) bases (subst (λ (c : Bool). ShowsPast (incarnation t drift c m) [] daemon) supports (subst (λ (u : Start). ShowsPast (incarnation u drift a m) [] daemon) starts shows))
 
-pub move_alike : (layout : Layout) (word p q : ℕ) (s t : Start) → p ≡ q → s ≡ t → ((p == 0) && (is_old_in layout word && keeps s)) ≡ ((q == 0) && (is_old_in layout word && keeps t))
+pub move_alike : (layout : Layout) (word p q : ℕ) (s t : Start) → p ≡ q → s ≡ t → ((p == 0) && (is_old_header layout word && keeps s)) ≡ ((q == 0) && (is_old_header layout word && keeps t))
 move_alike layout word p q s t polls starts = rw (polls, starts) refl
 
 due_moved : (known : Known) (c : Bool) → ShowsDue known (if c then Moving else Polling) (if c then dues.Moving else dues.Polling)

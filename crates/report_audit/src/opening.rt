@@ -2,7 +2,8 @@
 ghost use Rattle.std.specs.Prelude.{◌≡◌, ◌==◌, ◌&&◌, pos, false, None, slice_index};
 ghost use Rattle.clock_gate.specs.declared.clock_status.ClockStatus.TheVariants.{Unknown};
 ghost use Rattle.segment_layout.specs.History.{start_seen};
-ghost use Rattle.lawful_report.specs.Course.{Course, entry_or_none, last_entry, is_old_in, keeps};
+ghost use Rattle.segment_layout.specs.Image.{is_old_header};
+ghost use Rattle.lawful_report.specs.Course.{Course, entry_or_none, last_entry, keeps};
 ghost use Rattle.lawful_report.specs.Points.{segment_at};
 ghost use Rattle.report_audit.specs.Auditor.{ShowsCourse};
 
@@ -73,7 +74,7 @@ pub fn start_at(layout: Layout, point: u64, last: &Entry) -> Start
 
 /// Whether an opening that finds this moves the segment: the first one, where it finds a record under an old header.
 pub fn moves(trace: &Trace, polled: u32, start: &Start) -> bool
-    ensures { result ≡ ((polled == 0) && (is_old_in trace.now.layout (slice_index trace.now.image 1) && keeps start.now)) }
+    ensures { result ≡ ((polled == 0) && (is_old_header trace.now.layout (slice_index trace.now.image 1) && keeps start.now)) }
 {
     if polled != 0 {
         return false;

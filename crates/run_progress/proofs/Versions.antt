@@ -14,11 +14,11 @@ use Rattle.segment_layout.specs.declared.start.Start.TheVariants.{Fresh, Kept, T
 use Rattle.status_machine.specs.declared.poll.Poll.{Poll}
 use Rattle.segment_run.specs.SegmentRun.{SegmentRun, opening_effect, opening_length, headed, moved_once, opened_update, stored, is_old, start_found, ended_update, one_store_more}
 use Rattle.abstract_run.specs.Run.{Run, turn, turns_by, start, client_turn_in, client_at}
-use Rattle.abstract_run.specs.RunHost.{HostRun, clocks_at, page_shown}
-use Rattle.abstract_run.specs.RunPage.{PageAfter, Looks, Saw, Missed, page_load, is_marker_next}
-use Rattle.abstract_run.specs.RunDaemon as run_daemon
-use Rattle.abstract_run.specs.RunDaemon.{Life, Asked, Storing, Work, Resting, Opening, Asking, Looking, Taking, Writing, DaemonRun, DaemonTurn, daemon_turn, marked_by}
-use Rattle.abstract_run.specs.RunClient.{ClientRun}
+use Rattle.abstract_run.specs.HostRun.{HostRun, clocks_at, page_shown}
+use Rattle.abstract_run.specs.PageReading.{PageAfter, Looks, Saw, Missed, page_load, is_marker_next}
+use Rattle.abstract_run.specs.DaemonRun as run_daemon
+use Rattle.abstract_run.specs.DaemonRun.{Life, Asked, Storing, Work, Resting, Opening, Asking, Looking, Taking, Writing, DaemonRun, DaemonTurn, daemon_turn, marked_by}
+use Rattle.abstract_run.specs.ClientRun.{ClientRun}
 use Rattle.run_progress.proofs.DaemonGoes.{WorkGoes}
 use Rattle.run_progress.proofs.Progress.{RunGoes, run_goes, start_goes}
 

@@ -19,11 +19,11 @@ use Rattle.interval_now.specs.Interval.{interval_of}
 use Rattle.abstract_run.specs.declared.event.Event.{Event}
 use Rattle.abstract_run.specs.declared.event.Trail.{Trail}
 use Rattle.abstract_run.specs.Run.{client_start}
-use Rattle.abstract_run.specs.RunHost.{HostRun, clocks_at, pages_at, page_shown, marker_of, sequence_of}
-use Rattle.abstract_run.specs.RunPage.{PageTry, PageAfter, Looks, Saw, Missed, page_load, is_marker_next}
-use Rattle.abstract_run.specs.RunDaemon.{marked_by}
-use Rattle.abstract_run.specs.RunClient as run_client
-use Rattle.abstract_run.specs.RunClient.{SegmentAfter, Reads, IsWhole, Unpublished, AllFailed, segment_load, segment_reading, WholeRead, Clocked, CallStage, Reading, Clocking, Paging, Answered, CallAfter, Goes, Answers, CallRun, ClientRun, ClientTurn}
+use Rattle.abstract_run.specs.HostRun.{HostRun, clocks_at, pages_at, page_shown, marker_of, sequence_of}
+use Rattle.abstract_run.specs.PageReading.{PageTry, PageAfter, Looks, Saw, Missed, page_load, is_marker_next}
+use Rattle.abstract_run.specs.DaemonRun.{marked_by}
+use Rattle.abstract_run.specs.ClientRun as run_client
+use Rattle.abstract_run.specs.ClientRun.{SegmentAfter, Reads, IsWhole, Unpublished, AllFailed, segment_load, segment_reading, WholeRead, Clocked, CallStage, Reading, Clocking, Paging, Answered, CallAfter, Goes, Answers, CallRun, ClientRun, ClientTurn}
 use Rattle.abstract_run.proofs.AnswerOf.{IsTimeOf, IsAnswer, IsReadOf, StandsIn, PageFits, FitsIn, LeavesOf, step_of}
 use Rattle.abstract_run.proofs.RunFactsClient.{CallFits, StageFits}
 use Rattle.run_promises.specs.Told.{marker_at, AnswerTells, IsByPublication}

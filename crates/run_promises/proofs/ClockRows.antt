@@ -7,7 +7,7 @@ use Rattle.clock_gate.specs.declared.trace.HostRow.{HostRow}
 use Rattle.clock_gate.specs.declared.trace.HostRow.TheVariants.{Clock, Page, Disrupt}
 use Rattle.clock_gate.specs.ClockRow.{no_row, row_at}
 use Rattle.clock_gate.specs.Trace.{NeverFalls, clock_numbers, IsHostOf}
-use Rattle.abstract_run.specs.RunHost.{clocks_at}
+use Rattle.abstract_run.specs.HostRun.{clocks_at}
 use Rattle.promise_judge.proofs.Places.{clocks, loaded_within, numbered_one}
 use Rattle.promise_judge.specs.Positions.{position_of}
 

@@ -18,14 +18,15 @@ use Rattle.status_machine.specs.declared.poll.Poll.{Poll}
 use Rattle.status_machine.specs.Incarnation as incarnation
 use Rattle.status_machine.specs.Incarnation.{base_at, start_base, base_by_status, since_disrupted, is_unabsorbed, is_disrupted, status_by}
 use Rattle.status_machine.proofs.BaseMarker.{marker_before}
-use Rattle.segment_run.specs.SegmentRun.{SegmentRun, opening_effect, opening_length, headed, opened_update, moved_once, stored, is_old, is_old_in, start_found, one_store_more, number_shown, published_at}
+use Rattle.segment_layout.specs.Image.{is_old_header}
+use Rattle.segment_run.specs.SegmentRun.{SegmentRun, opening_effect, opening_length, headed, opened_update, moved_once, stored, is_old, start_found, one_store_more, number_shown, published_at}
 use Rattle.abstract_run.specs.RunWhole.{is_resting}
 use Rattle.abstract_run.specs.declared.event.Event.{Event}
 use Rattle.abstract_run.specs.declared.event.Event.TheVariants.{Opened, Moved, Published, Skipped, Stopped}
-use Rattle.abstract_run.specs.RunHost.{HostRun, clocks_at, pages_at, page_shown, marker_of, marker_by}
-use Rattle.abstract_run.specs.RunPage.{PageAfter, Looks, Saw, Missed, page_load, is_marker_next}
-use Rattle.abstract_run.specs.RunDaemon as run_daemon
-use Rattle.abstract_run.specs.RunDaemon.{Life, Asked, Storing, Work, Resting, Opening, Asking, Looking, Taking, Writing, DaemonRun, DaemonTurn, daemon_turn, marked_by}
+use Rattle.abstract_run.specs.HostRun.{HostRun, clocks_at, pages_at, page_shown, marker_of, marker_by}
+use Rattle.abstract_run.specs.PageReading.{PageAfter, Looks, Saw, Missed, page_load, is_marker_next}
+use Rattle.abstract_run.specs.DaemonRun as run_daemon
+use Rattle.abstract_run.specs.DaemonRun.{Life, Asked, Storing, Work, Resting, Opening, Asking, Looking, Taking, Writing, DaemonRun, DaemonTurn, daemon_turn, marked_by}
 use Rattle.status_machine.specs.Base.{base_number}
 use Rattle.abstract_run.specs.RunFacts.{PublishedEvent, told_at, AllEarlier}
 use Rattle.abstract_run.proofs.RunFactsDaemon.{next_number, WorkFits, opening_some}
@@ -455,8 +456,8 @@ module _ (trace : Trace) (host : HostRun) (segment : SegmentRun) (daemon : Daemo
   old_fits : OldFits trace daemon.base (start_found segment) (is_old segment)
   old_fits =
       record {
-        plain = λ is. old_by segment.is_headed (is_old_in segment.layout _) refl is;
-        image = found_old segment.is_writing (segment.position == 0) (is_old segment) (number_shown segment) (number_shown segment) refl (λ is. old_unheaded segment.is_headed (is_old_in segment.layout _) is);
+        plain = λ is. old_by segment.is_headed (is_old_header segment.layout _) refl is;
+        image = found_old segment.is_writing (segment.position == 0) (is_old segment) (number_shown segment) (number_shown segment) refl (λ is. old_unheaded segment.is_headed (is_old_header segment.layout _) is);
       }
 
   begins_by : (life : Option Life) → LifeOf trace past daemon.life → Turns (run_daemon.poll_begins trace host segment (record daemon { polled = daemon.polled + 1 }) life)

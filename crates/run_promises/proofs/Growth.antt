@@ -12,7 +12,7 @@ use Rattle.status_machine.specs.Incarnation as incarnation
 use Rattle.interval_now.specs.declared.answers.Interval.{Interval}
 use Rattle.interval_now.specs.declared.answers.Causality.{Causality}
 use Rattle.interval_now.specs.Interval.{elapsed_of, growth_of, half_width_of, is_disrupted, is_unabsorbed, client_status, interval_of, IsGrowth, status_by_age}
-use Rattle.abstract_run.specs.RunHost.{marker_by}
+use Rattle.abstract_run.specs.HostRun.{marker_by}
 use Rattle.run_promises.specs.Told.{marker_at}
 use Rattle.run_promises.specs.Judged.{is_trusted}
 

@@ -18,9 +18,9 @@ use Rattle.status_machine.proofs.BaseOfPoll.{base_of_poll-number}
 use Rattle.status_machine.proofs.LookBack.{absorbs, absorbed_none, is_absorbed-append}
 use Rattle.abstract_run.specs.declared.event.Event.{Event}
 use Rattle.abstract_run.specs.declared.event.Event.TheVariants.{Published}
-use Rattle.abstract_run.specs.RunDaemon.{Life}
+use Rattle.abstract_run.specs.DaemonRun.{Life}
 use Rattle.abstract_run.specs.RunFacts.{PublishedEvent, told_by, AllEarlier}
-use Rattle.abstract_run.specs.RunHost.{marker_by}
+use Rattle.abstract_run.specs.HostRun.{marker_by}
 use Rattle.abstract_run.proofs.RunFactsBases.{told_below, other_found}
 use Rattle.run_promises.specs.Told.{marker_at, IsMarkOf}
 

@@ -5,9 +5,9 @@ use Rattle.std.proofs.lemmas.Bool.{cases_eq}
 use Rattle.std.proofs.lemmas.Bool.Decides.{nat_tests}
 use Rattle.clock_gate.specs.declared.trace.HostRow.{HostRow}
 use Rattle.clock_gate.specs.declared.trace.HostRow.TheVariants.{Clock, Page, Disrupt}
-use Rattle.abstract_run.specs.RunHost.{HostRun, PageShown, pages_at, page_shown, sequence_of, row_turn, host_turn}
-use Rattle.abstract_run.specs.RunPage.{PageTry, PageReading, PageAfter, Looks, Saw, Missed, page_try_fails, page_load_by, page_last_load, page_load, is_marker_next}
-use Rattle.abstract_run.specs.RunDaemon.{marked_by}
+use Rattle.abstract_run.specs.HostRun.{HostRun, PageShown, pages_at, page_shown, sequence_of, row_turn, host_turn}
+use Rattle.abstract_run.specs.PageReading.{PageTry, PageReading, PageAfter, Looks, Saw, Missed, page_try_fails, page_load_by, page_last_load, page_load, is_marker_next}
+use Rattle.abstract_run.specs.DaemonRun.{marked_by}
 use Rattle.abstract_run.proofs.RowCounts.{pages_clock, pages_more, pages_disrupt}
 
 -- ---- a turn of the host leaves no fewer pages

@@ -8,10 +8,10 @@ use Rattle.vmclock_page.specs.Host.{count_of}
 use Rattle.segment_layout.specs.declared.start.Start.{Start}
 use Rattle.status_machine.specs.declared.poll.Poll.{Poll}
 use Rattle.segment_run.specs.SegmentRun.{SegmentRun, is_old, start_found, opening_effect, opening_length, stored}
-use Rattle.abstract_run.specs.RunHost.{HostRun, clocks_at, page_shown}
-use Rattle.abstract_run.specs.RunPage.{PageAfter, Looks, Saw, Missed, page_load, is_marker_next}
-use Rattle.abstract_run.specs.RunDaemon as run_daemon
-use Rattle.abstract_run.specs.RunDaemon.{Life, Asked, Storing, Work, Resting, Opening, Asking, Looking, Taking, Writing, DaemonRun, DaemonTurn, daemon_turn, marked_by}
+use Rattle.abstract_run.specs.HostRun.{HostRun, clocks_at, page_shown}
+use Rattle.abstract_run.specs.PageReading.{PageAfter, Looks, Saw, Missed, page_load, is_marker_next}
+use Rattle.abstract_run.specs.DaemonRun as run_daemon
+use Rattle.abstract_run.specs.DaemonRun.{Life, Asked, Storing, Work, Resting, Opening, Asking, Looking, Taking, Writing, DaemonRun, DaemonTurn, daemon_turn, marked_by}
 use Rattle.abstract_run.specs.RunWhole.{is_resting}
 
 -- no more polls were begun than the trace has, and one that is in hand was begun

@@ -20,10 +20,10 @@ use Rattle.segment_run.proofs.SegmentStart.{kept_number}
 use Rattle.abstract_run.specs.declared.event.Event.{Event}
 use Rattle.abstract_run.specs.declared.event.Event.TheVariants as events
 use Rattle.abstract_run.specs.Run.{Run, turn, turns_by, start, with_client, answer_events, client_turn_in}
-use Rattle.abstract_run.specs.RunHost.{HostRun, pages_at, row_turn, host_turn}
-use Rattle.abstract_run.specs.RunDaemon.{Life, Work, Resting, Opening, Asking, Looking, Taking, Writing, DaemonRun, daemon_turn}
-use Rattle.abstract_run.specs.RunClient as run_client
-use Rattle.abstract_run.specs.RunClient.{Answered, ClientRun, ClientTurn}
+use Rattle.abstract_run.specs.HostRun.{HostRun, pages_at, row_turn, host_turn}
+use Rattle.abstract_run.specs.DaemonRun.{Life, Work, Resting, Opening, Asking, Looking, Taking, Writing, DaemonRun, daemon_turn}
+use Rattle.abstract_run.specs.ClientRun as run_client
+use Rattle.abstract_run.specs.ClientRun.{Answered, ClientRun, ClientTurn}
 use Rattle.abstract_run.specs.Given.{CanRun}
 use Rattle.abstract_run.proofs.RunFactsClient.{CallFits}
 use Rattle.abstract_run.proofs.RunFactsHold.{AllFit, RunHolds, turn_holds, start_holds}

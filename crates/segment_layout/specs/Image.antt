@@ -1,5 +1,5 @@
 -- What ten words hold when a segment is opened, and their first fault.
-use Rattle.std.specs.Prelude.{◌≡◌, ℕ, ◌/◌, ◌%◌, ◌^◌, ◌<◌, Bool, ◌||◌, ◌&&◌, List, [], ◌∷◌, slice_index, Option, Some, None, Result, Ok, Err, ◌⊎◌, nat_lt, nat_le, ◌==◌, if◌then◌else◌}
+use Rattle.std.specs.Prelude.{◌≡◌, ℕ, ◌/◌, ◌%◌, ◌^◌, ◌<◌, Bool, false, ◌||◌, ◌&&◌, List, [], ◌∷◌, slice_index, Option, Some, None, Result, Ok, Err, ◌⊎◌, nat_lt, nat_le, ◌==◌, if◌then◌else◌}
 use Rattle.std.specs.Int.{w32, w64, cast_signed}
 use Rattle.generation_word.specs.declared.layout.Layout.{Layout}
 use Rattle.generation_word.specs.declared.layout.Layout.TheVariants.{Two, Three}
@@ -36,6 +36,11 @@ pub record HoldsRecord (layout : Layout) (words : List ℕ) (generation : ℕ) (
   pub published : 0 < generation
   pub spelled : words ≡ record_words (slice_index words 1) rec
   pub bounds : KeepsBounds rec.as_of rec.void_after rec.bound rec.drift
+
+-- the header is still of version 2 in a run of layout 3
+abbrev pub is_old_header : Layout → ℕ → Bool
+is_old_header Two header = false
+is_old_header Three header = (header_of header).1 == 2
 
 -- nothing was published: word 1 is 0 and word 0 is 0 or the magic, or the generation is 0
 abbrev pub HoldsNothing : Layout → List ℕ → Type 0

@@ -15,7 +15,7 @@ use Rattle.segment_layout.specs.declared.words.TheConstants.{MAGIC}
 use Rattle.segment_layout.specs.declared.start.Start.{Start}
 use Rattle.segment_layout.specs.declared.start.Start.TheVariants.{Fresh, Kept, Torn}
 use Rattle.segment_layout.specs.Record.{RecordFields}
-use Rattle.segment_layout.specs.Image.{image_of, generation_of_start}
+use Rattle.segment_layout.specs.Image.{image_of, generation_of_start, is_old_header}
 use Rattle.segment_layout.specs.History.{last_store}
 use Rattle.segment_run.specs.SegmentRun.{SegmentRun, headed, opened_update, moved_once, header_shown, number_shown, number_at, start_found}
 use Rattle.segment_run.specs.ShowsSegment.{IsSegment, ShowsSegment}
@@ -142,13 +142,13 @@ store_kept false generation (suc (suc (suc (suc (suc (suc (suc (suc (suc (suc k)
 fresh_are : (layout : Layout) (header : ℕ) → generation_in header ≡ 0 → later_steps layout header ≡ fresh_steps layout
 fresh_are layout header none = let test : (generation_in header == 0) ≡ true = grind (arith, nat_tests) in rw test refl
 
-torn_are : (layout : Layout) (header : ℕ) → generation_in header % 2 ≡ 1 → later_steps layout header ≡ torn_steps (opening.is_old layout header) (generation_in header)
+torn_are : (layout : Layout) (header : ℕ) → generation_in header % 2 ≡ 1 → later_steps layout header ≡ torn_steps (is_old_header layout header) (generation_in header)
 torn_are layout header odd =
     let positive : (generation_in header == 0) ≡ false = grind (arith, nat_tests) in
     let test : (generation_in header % 2 == 1) ≡ true = grind (arith, nat_tests) in
     rw (positive, test) refl
 
-kept_are : (layout : Layout) (header : ℕ) → 0 < generation_in header → generation_in header % 2 ≡ 0 → later_steps layout header ≡ kept_steps (opening.is_old layout header) (generation_in header)
+kept_are : (layout : Layout) (header : ℕ) → 0 < generation_in header → generation_in header % 2 ≡ 0 → later_steps layout header ≡ kept_steps (is_old_header layout header) (generation_in header)
 kept_are layout header more even =
     let positive : (generation_in header == 0) ≡ false = grind (arith, nat_tests) in
     let test : (generation_in header % 2 == 1) ≡ false = grind (arith, nat_tests) in
@@ -170,7 +170,7 @@ finds_by segment false false g h rec is at_none = let away : segment.position �
 pub finds : (segment : SegmentRun) → Finds segment (start_found segment)
 finds segment = finds_by segment segment.is_writing (segment.position == 0) _ _ _ refl refl
 
-pub steps_are : (segment : SegmentRun) (start : Start) → IsSegment segment → Finds segment start → opening_steps segment.layout (header_shown segment) ≡ steps_for segment.layout (opening.is_old segment.layout (header_shown segment)) (number_shown segment) start
+pub steps_are : (segment : SegmentRun) (start : Start) → IsSegment segment → Finds segment start → opening_steps segment.layout (header_shown segment) ≡ steps_for segment.layout (is_old_header segment.layout (header_shown segment)) (number_shown segment) start
 steps_are segment Fresh is found =
     let tells : generation_in (header_shown segment) ≡ number_shown segment = number_told segment is in
     ap (λ (acts : List Act). Load 0 ∷ Load 1 ∷ acts) (fresh_are segment.layout (header_shown segment) (tells ∙ found.2))
@@ -179,14 +179,14 @@ steps_are segment (Torn g) is found =
     let number = number_in_update segment found in
     let even = number_even segment segment.position in
     ap (λ (acts : List Act). Load 0 ∷ Load 1 ∷ acts)
-    (torn_are segment.layout (header_shown segment) (omega (arith, tells, number, even)) ∙ ap (torn_steps (opening.is_old segment.layout (header_shown segment))) tells)
+    (torn_are segment.layout (header_shown segment) (omega (arith, tells, number, even)) ∙ ap (torn_steps (is_old_header segment.layout (header_shown segment))) tells)
 steps_are segment (Kept g rec) is found =
     let tells : generation_in (header_shown segment) ≡ number_shown segment = number_told segment is in
     let number = number_at_rest segment found.0 in
     let even = number_even segment segment.position in
     let positive = number_positive segment segment.position found.1 in
     ap (λ (acts : List Act). Load 0 ∷ Load 1 ∷ acts)
-    (kept_are segment.layout (header_shown segment) (omega (arith, tells, number, positive)) (omega (arith, tells, number, even)) ∙ ap (kept_steps (opening.is_old segment.layout (header_shown segment))) tells)
+    (kept_are segment.layout (header_shown segment) (omega (arith, tells, number, positive)) (omega (arith, tells, number, even)) ∙ ap (kept_steps (is_old_header segment.layout (header_shown segment))) tells)
 
 -- ---- the image of a segment
 
@@ -264,12 +264,12 @@ pub record IsUnderWay (v : SeatView) (state : OpenerState) (w : SeatView) : Type
   pub magic : IsFirstWord v.daemon_part.segment first
   pub opens : Opens v.daemon_part.segment.layout (image_at first v.daemon_part.segment) state
   pub header : 1 < length state.values → slice_index state.values 1 ≡ header_shown v.daemon_part.segment
-  pub few : length state.values ≤ length (steps_for v.daemon_part.segment.layout (opening.is_old v.daemon_part.segment.layout (header_shown v.daemon_part.segment)) (number_shown v.daemon_part.segment) (start_found v.daemon_part.segment))
+  pub few : length state.values ≤ length (steps_for v.daemon_part.segment.layout (is_old_header v.daemon_part.segment.layout (header_shown v.daemon_part.segment)) (number_shown v.daemon_part.segment) (start_found v.daemon_part.segment))
   pub daemon_part : DaemonPartAt (start_found v.daemon_part.segment) (length state.values) v.daemon_part w.daemon_part
 
 -- the steps of the opening that began with this view
 abbrev pub plan : SeatView → List Act
-plan v = steps_for v.daemon_part.segment.layout (opening.is_old v.daemon_part.segment.layout (header_shown v.daemon_part.segment)) (number_shown v.daemon_part.segment) (start_found v.daemon_part.segment)
+plan v = steps_for v.daemon_part.segment.layout (is_old_header v.daemon_part.segment.layout (header_shown v.daemon_part.segment)) (number_shown v.daemon_part.segment) (start_found v.daemon_part.segment)
 
 early_act : (layout : Layout) (g h k : ℕ) → k < 2 → slice_index_or (opening_steps layout g) k End ≡ slice_index_or (opening_steps layout h) k End
 early_act layout g h zero few = refl
@@ -320,7 +320,7 @@ pub under_load : (v w x : SeatView) (state : OpenerState) (word n : ℕ) → IsD
 under_load v w x state word n own daemon u act started t =
     let l = stepping.loads_told false word n w x t in
     let now = act_now v w state own u in
-    let at = load_for v.daemon_part.segment.layout (opening.is_old v.daemon_part.segment.layout (header_shown v.daemon_part.segment)) (number_shown v.daemon_part.segment) (start_found v.daemon_part.segment) (length state.values) word (sym now ∙ act) in
+    let at = load_for v.daemon_part.segment.layout (is_old_header v.daemon_part.segment.layout (header_shown v.daemon_part.segment)) (number_shown v.daemon_part.segment) (start_found v.daemon_part.segment) (length state.values) word (sym now ∙ act) in
     let place = at.0 in
     let few = at.1 in
     let same : w.daemon_part ≡ v.daemon_part = part_at_loads (start_found v.daemon_part.segment) (length state.values) v.daemon_part w.daemon_part (omega (arith, few)) u.daemon_part in
@@ -387,7 +387,7 @@ under_first v x n own daemon t =
         magic = magic;
         opens = went.1;
         header = λ more. absurd (omega arith);
-        few = some_plan v.daemon_part.segment.layout (opening.is_old v.daemon_part.segment.layout (header_shown v.daemon_part.segment)) (number_shown v.daemon_part.segment) (start_found v.daemon_part.segment);
+        few = some_plan v.daemon_part.segment.layout (is_old_header v.daemon_part.segment.layout (header_shown v.daemon_part.segment)) (number_shown v.daemon_part.segment) (start_found v.daemon_part.segment);
         daemon_part = part_loaded (start_found v.daemon_part.segment) 1 v.daemon_part x.daemon_part (some_loads (start_found v.daemon_part.segment)) l.daemon_part;
       },
     )
@@ -480,7 +480,7 @@ store_even value number w three is even writes moves =
       low = omega arith;
     }
 
-old_three : (layout : Layout) (header : ℕ) → opening.is_old layout header ≡ true → layout ≡ Three
+old_three : (layout : Layout) (header : ℕ) → is_old_header layout header ≡ true → layout ≡ Three
 old_three Two header is = absurd (cc is)
 old_three Three header is = refl
 
@@ -518,9 +518,9 @@ module _ (v w : SeatView) (own : IsDaemonPart v) (setup : w.setup ≡ v.setup) w
       (store_fresh v.daemon_part.segment.layout k word value act)
 
   at_torn : (word value k : ℕ) (h : ℕ) → Finds v.daemon_part.segment (Torn h) → DaemonPartAt (Torn h) k v.daemon_part w.daemon_part
-      → slice_index_or (steps_for v.daemon_part.segment.layout (opening.is_old v.daemon_part.segment.layout (header_shown v.daemon_part.segment)) (number_shown v.daemon_part.segment) (Torn h)) k End ≡ Store word value → StoreAt v w word value k (Torn h)
+      → slice_index_or (steps_for v.daemon_part.segment.layout (is_old_header v.daemon_part.segment.layout (header_shown v.daemon_part.segment)) (number_shown v.daemon_part.segment) (Torn h)) k End ≡ Store word value → StoreAt v w word value k (Torn h)
   at_torn word value k h found at act =
-      let t = store_torn (opening.is_old v.daemon_part.segment.layout (header_shown v.daemon_part.segment)) (number_shown v.daemon_part.segment) k word value act in
+      let t = store_torn (is_old_header v.daemon_part.segment.layout (header_shown v.daemon_part.segment)) (number_shown v.daemon_part.segment) k word value act in
       let three = old_three v.daemon_part.segment.layout (header_shown v.daemon_part.segment) t.0 in
       let two = t.1 in
       let same : w.daemon_part ≡ v.daemon_part = at.0 (omega arith) in
@@ -534,9 +534,9 @@ module _ (v w : SeatView) (own : IsDaemonPart v) (setup : w.setup ≡ v.setup) w
       }
 
   at_kept : (word value k : ℕ) (h : ℕ) (rec : RecordFields) → Finds v.daemon_part.segment (Kept h rec) → DaemonPartAt (Kept h rec) k v.daemon_part w.daemon_part
-      → slice_index_or (steps_for v.daemon_part.segment.layout (opening.is_old v.daemon_part.segment.layout (header_shown v.daemon_part.segment)) (number_shown v.daemon_part.segment) (Kept h rec)) k End ≡ Store word value → StoreAt v w word value k (Kept h rec)
+      → slice_index_or (steps_for v.daemon_part.segment.layout (is_old_header v.daemon_part.segment.layout (header_shown v.daemon_part.segment)) (number_shown v.daemon_part.segment) (Kept h rec)) k End ≡ Store word value → StoreAt v w word value k (Kept h rec)
   at_kept word value k h rec found at act =
-      let t = store_kept (opening.is_old v.daemon_part.segment.layout (header_shown v.daemon_part.segment)) (number_shown v.daemon_part.segment) k word value act in
+      let t = store_kept (is_old_header v.daemon_part.segment.layout (header_shown v.daemon_part.segment)) (number_shown v.daemon_part.segment) k word value act in
       let three = old_three v.daemon_part.segment.layout (header_shown v.daemon_part.segment) t.0 in
       let rests = number_at_rest v.daemon_part.segment found.0 in
       let above = own.is.calm found.0 found.1 in
@@ -567,8 +567,8 @@ module _ (v w : SeatView) (own : IsDaemonPart v) (setup : w.setup ≡ v.setup) w
       t.2
 
   at_any : (start : Start) (word value k : ℕ) → Finds v.daemon_part.segment start → DaemonPartAt start k v.daemon_part w.daemon_part
-      → slice_index_or (steps_for v.daemon_part.segment.layout (opening.is_old v.daemon_part.segment.layout (header_shown v.daemon_part.segment)) (number_shown v.daemon_part.segment) start) k End ≡ Store word value → StoreAt v w word value k start
-  at_any Fresh word value k found at act = at_fresh word value k (opening.is_old v.daemon_part.segment.layout (header_shown v.daemon_part.segment)) (number_shown v.daemon_part.segment) found at act
+      → slice_index_or (steps_for v.daemon_part.segment.layout (is_old_header v.daemon_part.segment.layout (header_shown v.daemon_part.segment)) (number_shown v.daemon_part.segment) start) k End ≡ Store word value → StoreAt v w word value k start
+  at_any Fresh word value k found at act = at_fresh word value k (is_old_header v.daemon_part.segment.layout (header_shown v.daemon_part.segment)) (number_shown v.daemon_part.segment) found at act
   at_any (Torn h) word value k found at act = at_torn word value k h found at act
   at_any (Kept h rec) word value k found at act = at_kept word value k h rec found at act
 
@@ -624,7 +624,7 @@ under_store v w x state word value own u act t =
     let now = act_now v w state own u in
     let at = store_now v w state word value own u act in
     let s = open_stores word value w x at.storable.low t in
-    let k_late = late v.daemon_part.segment.layout (opening.is_old v.daemon_part.segment.layout (header_shown v.daemon_part.segment)) (number_shown v.daemon_part.segment) (start_found v.daemon_part.segment) (length state.values) word value (sym now ∙ act) in
+    let k_late = late v.daemon_part.segment.layout (is_old_header v.daemon_part.segment.layout (header_shown v.daemon_part.segment)) (number_shown v.daemon_part.segment) (start_found v.daemon_part.segment) (length state.values) word value (sym now ∙ act) in
     let more : length (state.values ++ value ∷ []) ≡ length state.values + 1 = length-append state.values (value ∷ []) in
     let within = within_plan v w state own u (λ e. absurd (cc (sym act ∙ e))) in
     let went = opens-store v.daemon_part.segment.layout (image_at u.first v.daemon_part.segment) state (Store word value) word value value u.opens (sym act) refl in (
@@ -726,7 +726,7 @@ moved_by (Torn h) old generation = None
 moved_by (Kept h rec) old generation = opening.moved_to old generation
 
 moved_are : (segment : SegmentRun) (layout : Layout) (start : Start) (values : List ℕ) → slice_index values 1 ≡ header_shown segment → IsSegment segment → Finds segment start
-    → (opening_for layout values).moved ≡ moved_by start (opening.is_old layout (header_shown segment)) (number_shown segment)
+    → (opening_for layout values).moved ≡ moved_by start (is_old_header layout (header_shown segment)) (number_shown segment)
 moved_are segment layout Fresh values header is found =
     let tells : generation_in (header_shown segment) ≡ number_shown segment = number_told segment is in
     let none : generation_in (slice_index values 1) ≡ 0 = ap generation_in header ∙ (tells ∙ found.2) in
@@ -746,7 +746,7 @@ moved_are segment layout (Kept h rec) values header is found =
     let more = number_positive segment segment.position found.1 in
     let positive : (generation_in (slice_index values 1) == 0) ≡ false = (let some_number : 0 < generation_in (slice_index values 1) = omega (arith, tells, number, more) in grind (arith, nat_tests)) in
     let test : (generation_in (slice_index values 1) % 2 == 1) ≡ false = (let rests : generation_in (slice_index values 1) % 2 ≡ 0 = omega (arith, tells, number, even) in grind (arith, nat_tests)) in
-    rw (positive, test) (λ j. opening.moved_to (opening.is_old layout (header j)) (tells j))
+    rw (positive, test) (λ j. opening.moved_to (is_old_header layout (header j)) (tells j))
 
 -- the history that an opening leaves
 opened_history : (start : Start) (old : Bool) (generation : ℕ) (s : DaemonPart) → (opened_of start old s).segment.history ≡ history_opened (moved_by start old generation) s.segment
@@ -794,13 +794,13 @@ opened_number (Kept h rec) true s found three same = even_moved s.segment (three
 opened_number (Kept h rec) false s found three same = same
 
 opened_at : (v w : SeatView) (answer : Opening) → IsDaemonPart v → answer.start ≡ start_found v.daemon_part.segment
-    → w.daemon_part ≡ opened_of (start_found v.daemon_part.segment) (opening.is_old v.daemon_part.segment.layout (header_shown v.daemon_part.segment)) v.daemon_part
-    → answer.moved ≡ moved_by (start_found v.daemon_part.segment) (opening.is_old v.daemon_part.segment.layout (header_shown v.daemon_part.segment)) (number_shown v.daemon_part.segment)
+    → w.daemon_part ≡ opened_of (start_found v.daemon_part.segment) (is_old_header v.daemon_part.segment.layout (header_shown v.daemon_part.segment)) v.daemon_part
+    → answer.moved ≡ moved_by (start_found v.daemon_part.segment) (is_old_header v.daemon_part.segment.layout (header_shown v.daemon_part.segment)) (number_shown v.daemon_part.segment)
     → OpenAt (generation_after answer) w
 opened_at v w answer own start part moved =
-    let number = opened_number (start_found v.daemon_part.segment) (opening.is_old v.daemon_part.segment.layout (header_shown v.daemon_part.segment)) v.daemon_part (finds v.daemon_part.segment)
+    let number = opened_number (start_found v.daemon_part.segment) (is_old_header v.daemon_part.segment.layout (header_shown v.daemon_part.segment)) v.daemon_part (finds v.daemon_part.segment)
     (old_three v.daemon_part.segment.layout (header_shown v.daemon_part.segment)) (found_number v.daemon_part.segment) in
-    let header = opened_header (start_found v.daemon_part.segment) (opening.is_old v.daemon_part.segment.layout (header_shown v.daemon_part.segment)) v.daemon_part own.is (finds v.daemon_part.segment) in
+    let header = opened_header (start_found v.daemon_part.segment) (is_old_header v.daemon_part.segment.layout (header_shown v.daemon_part.segment)) v.daemon_part own.is (finds v.daemon_part.segment) in
     subst (λ (p : DaemonPart). (generation_after answer ≡ number_shown p.segment) × (header_shown p.segment ≢ 0)) (sym part)
     ((λ j. generation_by (moved j) (start j)) ∙ number, header)
 
@@ -818,10 +818,10 @@ reopened v w state answer own u act told =
     let admitted = image_admitted u.first v.daemon_part.segment own.is u.magic own.fits in
     let ended_of : opening_of v.daemon_part.segment.layout state.values ≡ Ends answer =
     ap (λ (l : Layout). opening_of l state.values) (sym same) ∙ (ended state act ∙ same_some (opening_for state.layout state.values) answer is) in
-    let loads = plan_loads v.daemon_part.segment v.daemon_part.segment.layout (opening.is_old v.daemon_part.segment.layout (header_shown v.daemon_part.segment)) (start_found v.daemon_part.segment) own.is (finds v.daemon_part.segment) in
+    let loads = plan_loads v.daemon_part.segment v.daemon_part.segment.layout (is_old_header v.daemon_part.segment.layout (header_shown v.daemon_part.segment)) (start_found v.daemon_part.segment) own.is (finds v.daemon_part.segment) in
     let of_answer : opening_for state.layout state.values ≡ answer = same_opening (opening_for state.layout state.values) answer is in
-    let part = part_at_end (start_found v.daemon_part.segment) v.daemon_part.segment.layout (opening.is_old v.daemon_part.segment.layout (header_shown v.daemon_part.segment)) (number_shown v.daemon_part.segment) (length state.values) v.daemon_part w.daemon_part u.daemon_part all in
-    let moved : answer.moved ≡ moved_by (start_found v.daemon_part.segment) (opening.is_old v.daemon_part.segment.layout (header_shown v.daemon_part.segment)) (number_shown v.daemon_part.segment) =
+    let part = part_at_end (start_found v.daemon_part.segment) v.daemon_part.segment.layout (is_old_header v.daemon_part.segment.layout (header_shown v.daemon_part.segment)) (number_shown v.daemon_part.segment) (length state.values) v.daemon_part w.daemon_part u.daemon_part all in
+    let moved : answer.moved ≡ moved_by (start_found v.daemon_part.segment) (is_old_header v.daemon_part.segment.layout (header_shown v.daemon_part.segment)) (number_shown v.daemon_part.segment) =
     ap (λ (o : Opening). o.moved) (sym of_answer) ∙ ((λ j. (opening_for (same j) state.values).moved) ∙ moved_are v.daemon_part.segment v.daemon_part.segment.layout (start_found v.daemon_part.segment) state.values header own.is (finds v.daemon_part.segment)) in
     let start = opens_as_admitted v.daemon_part.segment.layout (image_at u.first v.daemon_part.segment) state.values (start_found v.daemon_part.segment) answer admitted
     (loads_whole (header_shown v.daemon_part.segment) state.values (image_at u.first v.daemon_part.segment) u.opens.loads header refl (omega (arith, loads, all))) ended_of in (
@@ -834,7 +834,7 @@ reopened v w state answer own u act told =
         sound = u.sound;
         points = u.points;
         history = ap (λ (p : DaemonPart). p.segment.history) part
-            ∙ (opened_history (start_found v.daemon_part.segment) (opening.is_old v.daemon_part.segment.layout (header_shown v.daemon_part.segment)) (number_shown v.daemon_part.segment) v.daemon_part
+            ∙ (opened_history (start_found v.daemon_part.segment) (is_old_header v.daemon_part.segment.layout (header_shown v.daemon_part.segment)) (number_shown v.daemon_part.segment) v.daemon_part
             ∙ ap (λ (m : Option ℕ). history_opened m v.daemon_part.segment) (sym moved));
         daemon_part = part;
       },

@@ -6,12 +6,12 @@ use Rattle.segment_layout.specs.declared.words.TheConstants.{MAGIC}
 use Rattle.segment_layout.specs.declared.start.Start.{Start}
 use Rattle.segment_layout.specs.declared.start.Start.TheVariants.{Fresh, Kept, Torn}
 use Rattle.segment_layout.specs.History.{History}
-use Rattle.segment_layout.specs.Image.{generation_of_start}
+use Rattle.segment_layout.specs.Image.{generation_of_start, is_old_header}
 use Rattle.segment_run.specs.SegmentRun.{SegmentRun, published_at, headed, opened_update, moved_once, number_at, number_shown, header_shown, start_found, no_publication}
 use Rattle.generation_word.specs.Header.{generation_in}
 use Rattle.segment_run.specs.ShowsSegment.{IsSegment}
 use Rattle.writer_reopen.specs.declared.opening.Opening.{Opening}
-use Rattle.writer_reopen.specs.Opening.{is_old, new_opener, opening_act, opening_given, opening_end}
+use Rattle.writer_reopen.specs.Opening.{new_opener, opening_act, opening_given, opening_end}
 use Rattle.segment_views.specs.Views.{DaemonPart, SeatView, no_update, point_of}
 use Rattle.segment_views.specs.Steps.{Tells, TellsDaemonPart, HasMagic, with_magic, with_head, move_begun, move_ended, calls_of}
 use Rattle.segment_views.specs.Shown.{touches_of, IsSoundCall, PointsFollow}
@@ -97,4 +97,4 @@ pub record Reopens (v : SeatView) (opening : Opening) (w : SeatView) : Type 0 wh
   pub sound : IsSoundCall w
   pub points : PointsFollow (point_of v.daemon_part.segment) w.steps (point_of w.daemon_part.segment)
   pub history : w.daemon_part.segment.history ≡ history_opened opening.moved v.daemon_part.segment
-  pub daemon_part : w.daemon_part ≡ opened_of (start_found v.daemon_part.segment) (is_old v.daemon_part.segment.layout (header_shown v.daemon_part.segment)) v.daemon_part
+  pub daemon_part : w.daemon_part ≡ opened_of (start_found v.daemon_part.segment) (is_old_header v.daemon_part.segment.layout (header_shown v.daemon_part.segment)) v.daemon_part

@@ -8,7 +8,7 @@ use Rattle.generation_word.specs.Header.{header_of}
 use Rattle.segment_layout.specs.declared.publication.Publication.{Publication}
 use Rattle.segment_layout.specs.declared.start.Start.{Start}
 use Rattle.segment_layout.specs.declared.start.Start.TheVariants.{Fresh, Kept, Torn}
-use Rattle.segment_layout.specs.Image.{start_of}
+use Rattle.segment_layout.specs.Image.{start_of, is_old_header}
 use Rattle.segment_layout.specs.Record.{RecordFields}
 use Rattle.segment_layout.specs.Words.{fields_of_words}
 use Rattle.segment_layout.specs.History.{History, AbstractSegment, Begun, number_of, header_seen, start_seen}
@@ -77,13 +77,8 @@ segment_start layout image sequence = segment_by layout image sequence (start_of
 
 -- ---- an opening
 
--- the header is still of version 2 in a run of layout 3
-abbrev pub is_old_in : Layout → ℕ → Bool
-is_old_in Two header = false
-is_old_in Three header = (header_of header).1 == 2
-
 abbrev pub is_old : SegmentRun → Bool
-is_old segment = not segment.is_headed && is_old_in segment.layout (slice_index segment.image 1)
+is_old segment = not segment.is_headed && is_old_header segment.layout (slice_index segment.image 1)
 
 -- what an opening finds
 abbrev pub start_found : SegmentRun → Start

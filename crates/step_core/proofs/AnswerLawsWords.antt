@@ -6,8 +6,8 @@ use Rattle.segment_run.specs.ShowsSegment.{IsSegment}
 use Rattle.interval_now.specs.declared.stage.Stage.{Stage}
 use Rattle.interval_now.specs.declared.stage.Stage.TheVariants as stages
 use Rattle.interval_now.specs.Call.{Call}
-use Rattle.abstract_run.specs.RunHost.{HostRun}
-use Rattle.abstract_run.specs.RunClient.{SegmentTry, SegmentReading, segment_reading, CallStage, Reading, Clocking, Paging, CallRun}
+use Rattle.abstract_run.specs.HostRun.{HostRun}
+use Rattle.abstract_run.specs.ClientRun.{SegmentTry, SegmentReading, segment_reading, CallStage, Reading, Clocking, Paging, CallRun}
 use Rattle.abstract_run.specs.NextLoad.{begun_read, read_at, next_read, IsFailing}
 use Rattle.abstract_run.proofs.AnswerLawsLoad.{FailsLoad}
 use Rattle.step_core.specs.declared.marks.Marks.{Marks}

@@ -14,8 +14,8 @@ use Rattle.interval_now.specs.declared.stage.Stage.TheVariants as stages
 use Rattle.interval_now.specs.Call.{Call}
 use Rattle.abstract_run.specs.Run.{tries_for}
 use Rattle.abstract_run.specs.Run as run_start
-use Rattle.abstract_run.specs.RunHost.{HostRun}
-use Rattle.abstract_run.specs.RunClient.{CallStage, Reading, Clocking, Paging, CallRun, ClientRun}
+use Rattle.abstract_run.specs.HostRun.{HostRun}
+use Rattle.abstract_run.specs.ClientRun.{CallStage, Reading, Clocking, Paging, CallRun, ClientRun}
 use Rattle.step_core.specs.declared.marks.Marks.{Marks}
 use Rattle.step_core.specs.SharedClient.{ClientState}
 use Rattle.step_core.specs.SharedClient as shared_client

@@ -25,11 +25,11 @@ use Rattle.interval_now.specs.Call as calls
 use Rattle.interval_now.specs.Call.{Call}
 use Rattle.interval_now.specs.Interval.{interval_of}
 use Rattle.abstract_run.specs.Run.{answer_events}
-use Rattle.abstract_run.specs.RunHost.{HostRun, clocks_at, page_shown, marker_of, sequence_of}
-use Rattle.abstract_run.specs.RunPage.{PageReading, PageAfter, Looks, Saw, Missed, page_load, is_marker_next}
-use Rattle.abstract_run.specs.RunDaemon.{marked_by}
-use Rattle.abstract_run.specs.RunClient.{SegmentTry, SegmentReading, SegmentAfter, Reads, IsWhole, Unpublished, AllFailed, segment_load, segment_reading, WholeRead, Clocked, CallStage, Reading, Clocking, Paging, CallAfter, Goes, Answers, CallRun, ClientRun}
-use Rattle.abstract_run.specs.RunClient as run_client
+use Rattle.abstract_run.specs.HostRun.{HostRun, clocks_at, page_shown, marker_of, sequence_of}
+use Rattle.abstract_run.specs.PageReading.{PageReading, PageAfter, Looks, Saw, Missed, page_load, is_marker_next}
+use Rattle.abstract_run.specs.DaemonRun.{marked_by}
+use Rattle.abstract_run.specs.ClientRun.{SegmentTry, SegmentReading, SegmentAfter, Reads, IsWhole, Unpublished, AllFailed, segment_load, segment_reading, WholeRead, Clocked, CallStage, Reading, Clocking, Paging, CallAfter, Goes, Answers, CallRun, ClientRun}
+use Rattle.abstract_run.specs.ClientRun as run_client
 use Rattle.abstract_run.specs.Given.{AreRows}
 use Rattle.step_core.specs.declared.marks.Marks.{Marks}
 use Rattle.step_core.specs.declared.marks.Place.{Place}

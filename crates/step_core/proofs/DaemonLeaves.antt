@@ -7,9 +7,9 @@ use Rattle.segment_layout.specs.declared.words.TheConstants.{MAGIC}
 use Rattle.segment_run.specs.SegmentRun.{SegmentRun, number_shown}
 use Rattle.segment_run.specs.ShowsSegment.{ShowsSegment, IsSegmentLater, KeepsRest}
 use Rattle.writer_reopen.specs.declared.order.Order.{Order}
-use Rattle.abstract_run.specs.RunHost.{HostRun}
-use Rattle.abstract_run.specs.RunDaemon as run_daemon
-use Rattle.abstract_run.specs.RunDaemon.{Life, Work, Resting, Opening, Asking, Looking, Taking, Writing, DaemonRun}
+use Rattle.abstract_run.specs.HostRun.{HostRun}
+use Rattle.abstract_run.specs.DaemonRun as run_daemon
+use Rattle.abstract_run.specs.DaemonRun.{Life, Work, Resting, Opening, Asking, Looking, Taking, Writing, DaemonRun}
 use Rattle.step_core.specs.declared.hand.Resumed.{Resumed}
 use Rattle.step_core.specs.SharedDaemon as shared_daemon
 use Rattle.step_core.specs.ShowsDaemon.{IsAlive, ShowsResumed, IsOrder, HasMagicWhile, HasMagicFor, ShowsDaemon}

@@ -20,9 +20,9 @@ use Rattle.writer_reopen.specs.declared.order.Order.{Order}
 use Rattle.writer_reopen.specs.declared.stage.Stage.TheVariants as stages
 use Rattle.writer_reopen.specs.PollMachine.{looking_by, stage_seen, stage_looked, polling_act, polling_given}
 use Rattle.writer_reopen.specs.Progress as poll_progress
-use Rattle.abstract_run.specs.RunHost.{HostRun, page_shown, marker_of, sequence_of}
-use Rattle.abstract_run.specs.RunPage.{PageReading, PageAfter, Looks, Saw, Missed, page_reading, page_load, is_marker_next}
-use Rattle.abstract_run.specs.RunDaemon.{Life, Asked, Looking, Taking, DaemonRun, poll_row, look_by, daemon_turn_by, marked_by, ask_by}
+use Rattle.abstract_run.specs.HostRun.{HostRun, page_shown, marker_of, sequence_of}
+use Rattle.abstract_run.specs.PageReading.{PageReading, PageAfter, Looks, Saw, Missed, page_reading, page_load, is_marker_next}
+use Rattle.abstract_run.specs.DaemonRun.{Life, Asked, Looking, Taking, DaemonRun, poll_row, look_by, daemon_turn_by, marked_by, ask_by}
 use Rattle.abstract_run.specs.Given.{AreRows}
 use Rattle.step_core.specs.declared.hand.Polling.{Polling}
 use Rattle.step_core.specs.declared.marks.PollMarks.{PollMarks}

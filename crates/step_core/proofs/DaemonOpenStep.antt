@@ -8,13 +8,14 @@ use Rattle.clock_gate.specs.declared.act.Act.TheVariants.{End}
 use Rattle.clock_gate.specs.declared.limits.TheConstants.{MOST_DRIFT}
 use Rattle.clock_gate.specs.declared.trace.Trace.{Trace}
 use Rattle.segment_layout.specs.declared.start.Start.{Start}
-use Rattle.segment_run.specs.SegmentRun.{SegmentRun, is_old_in, opening_length, opening_effect}
+use Rattle.segment_layout.specs.Image.{is_old_header}
+use Rattle.segment_run.specs.SegmentRun.{SegmentRun, opening_length, opening_effect}
 use Rattle.segment_run.specs.ShowsSegment.{ShowsSegment, IsSegmentLater}
 use Rattle.writer_reopen.specs.declared.opening.Opening.{Opening as Opened}
 use Rattle.writer_reopen.specs.Opening.{OpenerState, opening_steps, opening_act, opening_given, opening_end}
-use Rattle.abstract_run.specs.RunHost.{HostRun}
-use Rattle.abstract_run.specs.RunDaemon as run_daemon
-use Rattle.abstract_run.specs.RunDaemon.{Opening, DaemonRun, is_move, opening_ends, opening_step}
+use Rattle.abstract_run.specs.HostRun.{HostRun}
+use Rattle.abstract_run.specs.DaemonRun as run_daemon
+use Rattle.abstract_run.specs.DaemonRun.{Opening, DaemonRun, is_move, opening_ends, opening_step}
 use Rattle.step_core.specs.declared.hand.Hand.TheVariants as hands
 use Rattle.step_core.specs.declared.hand.Job.{Job}
 use Rattle.step_core.specs.SharedWords.{after_act, value_of}
@@ -57,7 +58,7 @@ goes_leaves trace host segment new words run daemon job start old steps first he
             values = refl;
             begun = omega arith;
             few = few;
-            is_old = subst (λ (layout : Layout). old ≡ is_old_in layout header) is.layout_is is.stands.is_old;
+            is_old = subst (λ (layout : Layout). old ≡ is_old_header layout header) is.layout_is is.stands.is_old;
             tells = is.stands.tells;
             stands = next.stands;
             unchanged = next.unchanged;

@@ -12,23 +12,23 @@ use Rattle.clock_gate.specs.declared.trace.Trace.{Trace}
 use Rattle.segment_layout.specs.declared.start.Start.{Start}
 use Rattle.segment_layout.specs.declared.start.Start.TheVariants.{Fresh, Kept, Torn}
 use Rattle.segment_layout.specs.declared.words.TheConstants.{MAGIC}
-use Rattle.segment_layout.specs.Image.{generation_of_start}
+use Rattle.segment_layout.specs.Image.{generation_of_start, is_old_header}
 use Rattle.segment_layout.specs.Record.{RecordFields}
 use Rattle.segment_layout.specs.Words.{fields_of_words}
 use Rattle.segment_layout.proofs.Back.{fields_of_words-data_words}
 use Rattle.status_machine.specs.Step.{begun}
 use Rattle.status_machine.proofs.Fits.{StartFits}
 use Rattle.status_machine.proofs.LookBack.{ShowsPast-begun}
-use Rattle.segment_run.specs.SegmentRun.{SegmentRun, number_shown, is_old_in, opening_length, opening_effect, headed, opened_update}
+use Rattle.segment_run.specs.SegmentRun.{SegmentRun, number_shown, opening_length, opening_effect, headed, opened_update}
 use Rattle.segment_run.specs.ShowsSegment.{IsSegment}
 use Rattle.segment_run.proofs.SegmentEnded.{KeepsBoundsOf}
 use Rattle.segment_run.proofs.SegmentHeader.{number_in_update, number_even, number_positive}
 use Rattle.writer_reopen.specs.declared.opening.Opening.{Opening as Opened}
-use Rattle.writer_reopen.specs.Opening.{OpenerState, is_old, moved_to, opening_steps, opening_for, opening_of, opening_act, opening_given, opening_end}
+use Rattle.writer_reopen.specs.Opening.{OpenerState, moved_to, opening_steps, opening_for, opening_of, opening_act, opening_given, opening_end}
 use Rattle.writer_reopen.proofs.InOrder.{ended_past, end_of_asking}
 use Rattle.writer_reopen.proofs.Openings.{steps_no_end, act-of_loaded, answer_at_end}
-use Rattle.abstract_run.specs.RunHost.{HostRun}
-use Rattle.abstract_run.specs.RunDaemon.{DaemonRun, life_from, is_move, opening_ends}
+use Rattle.abstract_run.specs.HostRun.{HostRun}
+use Rattle.abstract_run.specs.DaemonRun.{DaemonRun, life_from, is_move, opening_ends}
 use Rattle.step_core.specs.declared.hand.Job.{Job}
 use Rattle.step_core.specs.SharedDaemon.{DaemonState, opening_by}
 use Rattle.step_core.specs.ShowsDaemon.{IsWhere, IsJob, given_after, HasMagicIn}
@@ -85,7 +85,7 @@ opener_goes_on segment first header start old steps are few =
     let past : length (opening_steps segment.layout header) ≤ steps = ended_past (opening_steps segment.layout header) steps (steps_no_end segment.layout header) (sym act_is ∙ ended) in
     absurd (omega (arith, few, long, past)))
 
-old_same : (layout : Layout) (header : ℕ) → is_old layout header ≡ is_old_in layout header
+old_same : (layout : Layout) (header : ℕ) → is_old_header layout header ≡ is_old_header layout header
 old_same Two header = refl
 old_same Three header = refl
 
@@ -107,7 +107,7 @@ kept_moved true generation rec = refl
 kept_moved false generation rec = refl
 
 found_kept : (layout : Layout) (values : List ℕ) (generation : ℕ) (rec : RecordFields) (old : Bool) → generation_in (slice_index values 1) ≡ generation → 0 < generation → generation % 2 ≡ 0
-    → is_old layout (slice_index values 1) ≡ old → fields_of_words values ≡ rec → opening_for layout values ≡ opened_as old (Kept generation rec)
+    → is_old_header layout (slice_index values 1) ≡ old → fields_of_words values ≡ rec → opening_for layout values ≡ opened_as old (Kept generation rec)
 found_kept layout values generation rec old tells some even old_is fields =
     let some_number : (generation == 0) ≡ false = grind (arith, nat_tests) in
     let test : (generation % 2 == 1) ≡ false = grind (arith, nat_tests) in

@@ -20,8 +20,8 @@ use Rattle.writer_reopen.specs.PollMachine.{IsUpdate}
 use Rattle.writer_reopen.specs.Progress.{end_of}
 use Rattle.writer_reopen.proofs.Cut.{end_published, end_stopped, end_past_ten}
 use Rattle.abstract_run.specs.declared.event.Event.TheVariants as events
-use Rattle.abstract_run.specs.RunHost.{HostRun}
-use Rattle.abstract_run.specs.RunDaemon.{Storing, Resting, Writing, DaemonRun, poll_row, is_stop, stops, published, publication_ends, after_stores}
+use Rattle.abstract_run.specs.HostRun.{HostRun}
+use Rattle.abstract_run.specs.DaemonRun.{Storing, Resting, Writing, DaemonRun, poll_row, is_stop, stops, published, publication_ends, after_stores}
 use Rattle.step_core.specs.declared.hand.Polling.{Polling}
 use Rattle.step_core.specs.declared.hand.Hand.TheVariants as hands
 use Rattle.step_core.specs.declared.marks.PollMarks.{PollMarks}

@@ -19,8 +19,8 @@ use Rattle.writer_reopen.specs.declared.stage.Taken.{Taken}
 use Rattle.writer_reopen.specs.PollMachine.{IsUpdate, polling_act}
 use Rattle.writer_reopen.proofs.Cut.{act_before_stop}
 use Rattle.abstract_run.specs.declared.event.Event.TheVariants as events
-use Rattle.abstract_run.specs.RunHost.{HostRun}
-use Rattle.abstract_run.specs.RunDaemon.{Storing, Resting, Writing, DaemonRun, poll_row, is_stop, stops, published, after_stores, store_step}
+use Rattle.abstract_run.specs.HostRun.{HostRun}
+use Rattle.abstract_run.specs.DaemonRun.{Storing, Resting, Writing, DaemonRun, poll_row, is_stop, stops, published, after_stores, store_step}
 use Rattle.step_core.specs.declared.marks.PollMarks.{PollMarks}
 use Rattle.step_core.specs.SharedWords.{after_act}
 use Rattle.step_core.specs.SharedDaemon.{DaemonState, polling_with, polling_after, noted_poll}

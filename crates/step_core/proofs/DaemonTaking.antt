@@ -27,8 +27,8 @@ use Rattle.writer_reopen.specs.declared.order.Order.{Order}
 use Rattle.writer_reopen.specs.declared.stage.Sight.{Sight}
 use Rattle.writer_reopen.specs.declared.stage.Stage.TheVariants as stages
 use Rattle.writer_reopen.specs.Poll.{marker_seen, sequence_seen, poll_for, daemon_for, publication_for, taken_for}
-use Rattle.abstract_run.specs.RunHost.{HostRun}
-use Rattle.abstract_run.specs.RunDaemon.{Life, Asked, Storing, DaemonRun, poll_row, poll_of, publication_of, taken}
+use Rattle.abstract_run.specs.HostRun.{HostRun}
+use Rattle.abstract_run.specs.DaemonRun.{Life, Asked, Storing, DaemonRun, poll_row, poll_of, publication_of, taken}
 use Rattle.status_machine.specs.Base.{base_number}
 use Rattle.step_core.specs.declared.hand.Polling.{Polling}
 use Rattle.step_core.specs.declared.marks.PollMarks.{PollMarks}

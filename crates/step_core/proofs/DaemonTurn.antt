@@ -13,7 +13,8 @@ use Rattle.segment_layout.specs.declared.start.Start.{Start}
 use Rattle.segment_layout.specs.declared.words.TheConstants.{MAGIC}
 use Rattle.status_machine.specs.declared.daemon.Daemon.{Daemon}
 use Rattle.status_machine.specs.Poll.{heard_of}
-use Rattle.segment_run.specs.SegmentRun.{SegmentRun, header_shown, is_old_in, is_old, start_found}
+use Rattle.segment_layout.specs.Image.{is_old_header}
+use Rattle.segment_run.specs.SegmentRun.{SegmentRun, header_shown, is_old, start_found}
 use Rattle.segment_run.specs.ShowsSegment.{ShowsSegment}
 use Rattle.segment_run.proofs.SegmentLater.{later_same}
 use Rattle.shm_writer.specs.Publisher.{Publishing}
@@ -24,9 +25,9 @@ use Rattle.writer_reopen.specs.declared.stage.Stage.TheVariants as stages
 use Rattle.writer_reopen.specs.declared.stage.Taken.{Taken}
 use Rattle.writer_reopen.specs.Opening.{OpenerState, opening_act}
 use Rattle.writer_reopen.specs.PollMachine.{polling_act}
-use Rattle.abstract_run.specs.RunHost.{HostRun}
-use Rattle.abstract_run.specs.RunPage.{PageReading}
-use Rattle.abstract_run.specs.RunDaemon.{Life, Asked, Storing, Work, Resting, Opening, Asking, Looking, Taking, Writing, DaemonRun, no_poll, poll_row, poll_of, ask_by, taken, opening_step, poll_begins, next_poll, daemon_turn_by, daemon_turn}
+use Rattle.abstract_run.specs.HostRun.{HostRun}
+use Rattle.abstract_run.specs.PageReading.{PageReading}
+use Rattle.abstract_run.specs.DaemonRun.{Life, Asked, Storing, Work, Resting, Opening, Asking, Looking, Taking, Writing, DaemonRun, no_poll, poll_row, poll_of, ask_by, taken, opening_step, poll_begins, next_poll, daemon_turn_by, daemon_turn}
 use Rattle.abstract_run.specs.Given.{AreRows}
 use Rattle.step_core.specs.declared.hand.Hand.{Hand}
 use Rattle.step_core.specs.declared.hand.Hand.TheVariants as hands
@@ -157,7 +158,7 @@ opens_turned trace host machine segment words run start old steps opener job dae
     record {
       stands = is.stands;
       few = is.few;
-      is_old = subst (λ (layout : Layout). old ≡ is_old_in layout is.header) (sym on.layout_is) is.is_old;
+      is_old = subst (λ (layout : Layout). old ≡ is_old_header layout is.header) (sym on.layout_is) is.is_old;
       tells = is.tells;
       unchanged = is.unchanged;
       unheaded = is.unheaded;

@@ -7,8 +7,8 @@ use Rattle.seqlock.specs.Tries.{SeqlockRead, started}
 use Rattle.vmclock_page.specs.Host.{Host}
 use Rattle.segment_layout.specs.Words.{flag_of}
 use Rattle.segment_run.specs.ShowsSegment.{KeepsRest}
-use Rattle.abstract_run.specs.RunHost.{HostRun, PageShown, clocks_at, pages_at, page_shown}
-use Rattle.abstract_run.specs.RunPage.{PageReading, PageTry, page_reading}
+use Rattle.abstract_run.specs.HostRun.{HostRun, PageShown, clocks_at, pages_at, page_shown}
+use Rattle.abstract_run.specs.PageReading.{PageReading, PageTry, page_reading}
 use Rattle.abstract_run.specs.Given.{AreRows}
 use Rattle.abstract_run.proofs.RowCounts.{clocks_most, clocks_some}
 use Rattle.step_core.specs.ShowsHost.{ShowsHost, InHand, IsPageTry, IsPageTryOf, ShowsPageRead}

@@ -16,7 +16,7 @@ use Rattle.vmclock_page.specs.Words.{word_with_count}
 use Rattle.vmclock_page.specs.Rows.{IsRowOf, ArePageRows}
 use Rattle.vmclock_page.specs.Host.{Host, begun, act_of, given, constants_of, count_of, raised, page_stores}
 use Rattle.segment_run.specs.ShowsSegment.{KeepsSegment}
-use Rattle.abstract_run.specs.RunHost.{HostRun, clocks_at, pages_at, pages_of, sequence_of, row_turn, host_turn}
+use Rattle.abstract_run.specs.HostRun.{HostRun, clocks_at, pages_at, pages_of, sequence_of, row_turn, host_turn}
 use Rattle.abstract_run.specs.Given.{AreRows}
 use Rattle.abstract_run.proofs.RowCounts.{clocks_more, clocks_page, clocks_disrupt, next_clock, pages_clock, pages_more, pages_disrupt, next_page}
 use Rattle.step_core.specs.SharedWords.{after_act, if_ended}

@@ -10,9 +10,9 @@ use Rattle.segment_layout.specs.Words.{flag_of}
 use Rattle.segment_run.specs.SegmentRun.{SegmentRun}
 use Rattle.shm_reader.specs.declared.seen.Seen.TheVariants as seen
 use Rattle.shm_reader.specs.SegmentTries as segment_tries
-use Rattle.abstract_run.specs.RunHost.{HostRun, PageShown, page_shown, marker_of, sequence_of}
-use Rattle.abstract_run.specs.RunPage.{PageAfter, Looks, Saw, Missed}
-use Rattle.abstract_run.specs.RunClient.{SegmentAfter, Reads, IsWhole, Unpublished, AllFailed}
+use Rattle.abstract_run.specs.HostRun.{HostRun, PageShown, page_shown, marker_of, sequence_of}
+use Rattle.abstract_run.specs.PageReading.{PageAfter, Looks, Saw, Missed}
+use Rattle.abstract_run.specs.ClientRun.{SegmentAfter, Reads, IsWhole, Unpublished, AllFailed}
 use Rattle.step_core.specs.ShowsHost.{ShowsPageRead}
 use Rattle.step_core.specs.ShowsSegment.{ShowsSegmentRead}
 

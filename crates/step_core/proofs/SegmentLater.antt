@@ -10,7 +10,7 @@ use Rattle.segment_layout.specs.Words.{data_words}
 use Rattle.segment_run.specs.SegmentRun.{SegmentRun}
 use Rattle.segment_run.specs.ShowsSegment.{IsSegment, IsSegmentLater}
 use Rattle.segment_run.proofs.SegmentLater.{later_position, calm_before, published_later}
-use Rattle.abstract_run.specs.RunClient.{SegmentTry, SegmentReading, segment_reading}
+use Rattle.abstract_run.specs.ClientRun.{SegmentTry, SegmentReading, segment_reading}
 use Rattle.step_core.specs.ShowsSegment.{IsSegmentTry, IsSegmentTryOf, ShowsSegmentRead}
 
 -- ---- a read in hand

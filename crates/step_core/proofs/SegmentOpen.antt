@@ -14,16 +14,16 @@ use Rattle.clock_gate.specs.declared.act.Act.TheVariants.{Load, Store}
 use Rattle.segment_layout.specs.declared.words.TheConstants.{MAGIC}
 use Rattle.segment_layout.specs.declared.start.Start.{Start}
 use Rattle.segment_layout.specs.declared.start.Start.TheVariants.{Fresh, Kept, Torn}
-use Rattle.segment_layout.specs.Image.{generation_of_start}
+use Rattle.segment_layout.specs.Image.{generation_of_start, is_old_header}
 use Rattle.segment_layout.specs.Record.{RecordFields}
 use Rattle.segment_layout.specs.Words.{record_words}
-use Rattle.segment_run.specs.SegmentRun.{SegmentRun, header_shown, number_at, number_shown, published_at, is_old_in, opening_length, headed, opened_update, moved_once}
+use Rattle.segment_run.specs.SegmentRun.{SegmentRun, header_shown, number_at, number_shown, published_at, opening_length, headed, opened_update, moved_once}
 use Rattle.segment_run.specs.ShowsSegment.{HoldsWords, ShowsSegment, IsSegmentLater, KeepsRest}
 use Rattle.segment_run.proofs.SegmentHeader.{number_at_rest, number_in_update, number_even, number_positive, period_positive}
 use Rattle.segment_run.proofs.SegmentLater.{later_same}
 use Rattle.segment_run.proofs.SegmentEnded.{headed_is, headed_later, in_update_is, in_update_later, after_update_is, after_update_later, after_update_number, after_update_header}
 use Rattle.segment_run.proofs.SegmentStore.{rest_kept, header_stored}
-use Rattle.writer_reopen.specs.Opening.{is_old, opening_steps}
+use Rattle.writer_reopen.specs.Opening.{opening_steps}
 use Rattle.writer_reopen.proofs.Found.{steps_for, IsFoundBy, steps_by_found}
 use Rattle.step_core.specs.SharedWords.{after_act, value_of}
 use Rattle.step_core.specs.ShowsDaemon.{given_after, StandsIn, HasMagicIn}
@@ -34,7 +34,7 @@ use Rattle.step_core.specs.ShowsDaemon.{given_after, StandsIn, HasMagicIn}
 pub record IsInOpening (segment : SegmentRun) (start : Start) (old : Bool) (steps header : ℕ) : Type 0 where
   pub stands : StandsIn segment start old steps
   pub few : steps < opening_length old start
-  pub is_old : old ≡ is_old_in segment.layout header
+  pub is_old : old ≡ is_old_header segment.layout header
   pub tells : generation_in header ≡ generation_of_start start
   pub unchanged : steps < 11 → header_shown segment ≡ header
   pub unheaded : old ≡ true → steps < 11 → segment.is_headed ≡ false
@@ -57,11 +57,11 @@ pub record OpeningShows (segment new : SegmentRun) (start : Start) (old : Bool) 
 
 -- ---- which steps they are
 
-pub old_same : (layout : Layout) (header : ℕ) → is_old layout header ≡ is_old_in layout header
+pub old_same : (layout : Layout) (header : ℕ) → is_old_header layout header ≡ is_old_header layout header
 old_same Two header = refl
 old_same Three header = refl
 
-old_three : (layout : Layout) (header : ℕ) → is_old_in layout header ≡ true → layout ≡ Three
+old_three : (layout : Layout) (header : ℕ) → is_old_header layout header ≡ true → layout ≡ Three
 old_three Two header is = absurd (cc is)
 old_three Three header is = refl
 

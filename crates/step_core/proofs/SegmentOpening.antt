@@ -11,9 +11,9 @@ use Rattle.clock_gate.specs.declared.act.Act.TheVariants.{Load, End}
 use Rattle.segment_layout.specs.declared.words.TheConstants.{MAGIC}
 use Rattle.segment_layout.specs.declared.start.Start.{Start}
 use Rattle.segment_layout.specs.declared.start.Start.TheVariants.{Fresh, Kept, Torn}
-use Rattle.segment_layout.specs.Image.{generation_of_start}
+use Rattle.segment_layout.specs.Image.{generation_of_start, is_old_header}
 use Rattle.segment_layout.specs.Record.{RecordFields}
-use Rattle.segment_run.specs.SegmentRun.{SegmentRun, header_shown, number_shown, published_at, is_old_in, is_old, start_found, opening_length, opened_update, moved_once, opening_effect}
+use Rattle.segment_run.specs.SegmentRun.{SegmentRun, header_shown, number_shown, published_at, is_old, start_found, opening_length, opened_update, moved_once, opening_effect}
 use Rattle.segment_run.specs.ShowsSegment.{IsSegment, ShowsSegment}
 use Rattle.segment_run.proofs.SegmentHeader.{told_three, number_told, number_at_rest, magic_of_header}
 use Rattle.writer_reopen.specs.Opening.{move_steps, opening_steps}
@@ -130,15 +130,15 @@ found_number segment = found_number_by segment segment.is_writing (segment.posit
 pub found_told : (segment : SegmentRun) → IsSegment segment → generation_in (header_shown segment) ≡ generation_of_start (start_found segment)
 found_told segment is = number_told segment is ∙ sym (found_number segment)
 
-old_own : (layout : Layout) (generation : ℕ) → is_old_in layout (word1_of layout generation) ≡ false
+old_own : (layout : Layout) (generation : ℕ) → is_old_header layout (word1_of layout generation) ≡ false
 old_own Two generation = refl
 old_own Three generation = ap (λ (told : ℕ × ℕ × ℕ). told.1 == 2) (told_three generation)
 
-old_by : (segment : SegmentRun) (is_headed : Bool) → segment.is_headed ≡ is_headed → is_old segment ≡ is_old_in segment.layout (header_shown segment)
+old_by : (segment : SegmentRun) (is_headed : Bool) → segment.is_headed ≡ is_headed → is_old segment ≡ is_old_header segment.layout (header_shown segment)
 old_by segment true is = rw is (sym (old_own segment.layout (number_shown segment)))
 old_by segment false is = rw is refl
 
-found_old : (segment : SegmentRun) → is_old segment ≡ is_old_in segment.layout (header_shown segment)
+found_old : (segment : SegmentRun) → is_old segment ≡ is_old_header segment.layout (header_shown segment)
 found_old segment = old_by segment segment.is_headed refl
 
 unheaded_by : (is_headed old : Bool) → (not is_headed && old) ≡ true → is_headed ≡ false
@@ -169,7 +169,7 @@ opening_begins segment is =
       is_old = found_old segment;
       tells = found_told segment is;
       unchanged = λ below. refl;
-      unheaded = λ is_it below. unheaded_by segment.is_headed (is_old_in segment.layout (slice_index segment.image 1)) is_it;
+      unheaded = λ is_it below. unheaded_by segment.is_headed (is_old_header segment.layout (slice_index segment.image 1)) is_it;
     }
 
 found_magic_by : (segment : SegmentRun) (words : List ℕ) (writes none : Bool) → ShowsSegment segment words → segment.is_writing ≡ writes → (segment.position == 0) ≡ none

@@ -18,11 +18,11 @@ use Rattle.segment_run.proofs.SegmentStart.{segment_start_shows}
 use Rattle.abstract_run.specs.declared.event.Event.{Event}
 use Rattle.abstract_run.specs.Run as runs
 use Rattle.abstract_run.specs.Run.{Run, turn, start}
-use Rattle.abstract_run.specs.RunHost.{HostRun, host_start, host_turn}
-use Rattle.abstract_run.specs.RunDaemon as run_daemon
-use Rattle.abstract_run.specs.RunDaemon.{daemon_turn}
-use Rattle.abstract_run.specs.RunClient as run_client
-use Rattle.abstract_run.specs.RunClient.{ClientRun}
+use Rattle.abstract_run.specs.HostRun.{HostRun, host_start, host_turn}
+use Rattle.abstract_run.specs.DaemonRun as run_daemon
+use Rattle.abstract_run.specs.DaemonRun.{daemon_turn}
+use Rattle.abstract_run.specs.ClientRun as run_client
+use Rattle.abstract_run.specs.ClientRun.{ClientRun}
 use Rattle.abstract_run.specs.Given.{IsGiven, AreRows}
 use Rattle.step_core.specs.declared.marks.Place.{Place}
 use Rattle.step_core.specs.Shared as shareds

@@ -12,9 +12,9 @@ use Rattle.interval_now.specs.Call.{Call}
 use Rattle.abstract_run.specs.declared.limits.TheConstants.{MOST_JOB_STEPS}
 use Rattle.abstract_run.specs.Schedule as schedule
 use Rattle.abstract_run.specs.Run.{Run, turn, start}
-use Rattle.abstract_run.specs.RunHost.{HostRun}
-use Rattle.abstract_run.specs.RunDaemon.{Work, Resting, Opening, Asking, Looking, Taking, Writing, DaemonRun}
-use Rattle.abstract_run.specs.RunClient.{CallRun, ClientRun}
+use Rattle.abstract_run.specs.HostRun.{HostRun}
+use Rattle.abstract_run.specs.DaemonRun.{Work, Resting, Opening, Asking, Looking, Taking, Writing, DaemonRun}
+use Rattle.abstract_run.specs.ClientRun.{CallRun, ClientRun}
 use Rattle.abstract_run.specs.RunWhole as whole
 use Rattle.abstract_run.specs.RunWhole.{run_of, run_from, lines_from, finish}
 use Rattle.abstract_run.specs.Given.{IsGiven}

@@ -6,8 +6,8 @@ use Rattle.segment_run.specs.SegmentRun.{SegmentRun}
 use Rattle.interval_now.specs.declared.stage.Stage.{Stage}
 use Rattle.interval_now.specs.declared.stage.Stage.TheVariants as stages
 use Rattle.interval_now.specs.Call.{Call}
-use Rattle.abstract_run.specs.RunHost.{HostRun}
-use Rattle.abstract_run.specs.RunClient.{SegmentTry, WholeRead, Clocked, CallStage, Reading, Clocking, Paging, CallRun, ClientRun}
+use Rattle.abstract_run.specs.HostRun.{HostRun}
+use Rattle.abstract_run.specs.ClientRun.{SegmentTry, WholeRead, Clocked, CallStage, Reading, Clocking, Paging, CallRun, ClientRun}
 use Rattle.step_core.specs.declared.marks.Marks.{Marks}
 use Rattle.step_core.specs.SharedClient.{ClientState}
 use Rattle.step_core.specs.ShowsHost.{ShowsPageRead}

@@ -8,14 +8,14 @@ use Rattle.clock_gate.specs.ClockRow.{reading_at}
 use Rattle.segment_layout.specs.declared.words.TheConstants.{MAGIC}
 use Rattle.segment_layout.specs.declared.start.Start.{Start}
 use Rattle.segment_layout.specs.declared.start.Start.TheVariants.{Fresh, Kept, Torn}
-use Rattle.segment_layout.specs.Image.{generation_of_start}
+use Rattle.segment_layout.specs.Image.{generation_of_start, is_old_header}
 use Rattle.segment_layout.specs.Record.{KeepsBounds}
 use Rattle.segment_layout.specs.Words.{data_words}
 use Rattle.segment_layout.specs.History.{Begun}
 use Rattle.status_machine.specs.declared.daemon.Daemon.{Daemon}
 use Rattle.status_machine.specs.Poll.{heard_of}
 use Rattle.status_machine.specs.Step.{ShowsPast}
-use Rattle.segment_run.specs.SegmentRun.{SegmentRun, number_at, number_shown, header_shown, published_at, is_old_in, opening_length}
+use Rattle.segment_run.specs.SegmentRun.{SegmentRun, number_at, number_shown, header_shown, published_at, opening_length}
 use Rattle.segment_run.specs.ShowsSegment.{HoldsWords}
 use Rattle.writer_reopen.specs.declared.order.Order.{Order}
 use Rattle.writer_reopen.specs.declared.stage.Stage.{Stage}
@@ -23,8 +23,8 @@ use Rattle.writer_reopen.specs.declared.stage.Stage.TheVariants as stages
 use Rattle.writer_reopen.specs.Opening.{OpenerState}
 use Rattle.writer_reopen.specs.Poll.{marker_seen, sequence_seen}
 use Rattle.writer_reopen.specs.PollMachine.{DaemonFits}
-use Rattle.abstract_run.specs.RunHost.{HostRun}
-use Rattle.abstract_run.specs.RunDaemon.{Life, Storing, Work, Resting, Opening, Asking, Looking, Taking, Writing, DaemonRun, poll_row}
+use Rattle.abstract_run.specs.HostRun.{HostRun}
+use Rattle.abstract_run.specs.DaemonRun.{Life, Storing, Work, Resting, Opening, Asking, Looking, Taking, Writing, DaemonRun, poll_row}
 use Rattle.step_core.specs.declared.hand.Hand.{Hand}
 use Rattle.step_core.specs.declared.hand.Hand.TheVariants as hands
 use Rattle.step_core.specs.declared.hand.Job.{Job}
@@ -84,7 +84,7 @@ pub record ShowsOpening (trace : Trace) (segment : SegmentRun) (start : Start) (
   pub values : opener.values ≡ take steps (first ∷ header ∷ given_after start)
   pub begun : 0 < steps
   pub few : steps < opening_length old start
-  pub is_old : old ≡ is_old_in trace.layout header
+  pub is_old : old ≡ is_old_header trace.layout header
   pub tells : generation_in header ≡ generation_of_start start
   pub stands : StandsIn segment start old steps
   -- word 1 is stored by the last step, and in a move by the last two

@@ -4,7 +4,7 @@ use Rattle.seqlock.specs.Tries.{SeqlockRead}
 use Rattle.segment_layout.specs.Image.{IsHeaderFor}
 use Rattle.segment_layout.specs.Words.{data_words}
 use Rattle.segment_run.specs.SegmentRun.{SegmentRun, number_at, header_shown, published_at}
-use Rattle.abstract_run.specs.RunClient.{SegmentTry, SegmentReading}
+use Rattle.abstract_run.specs.ClientRun.{SegmentTry, SegmentReading}
 
 -- ---- a read of the segment
 

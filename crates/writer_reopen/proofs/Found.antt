@@ -12,7 +12,8 @@ use Rattle.clock_gate.specs.declared.act.Act.TheVariants.{Load, Store, End}
 use Rattle.segment_layout.specs.declared.words.TheConstants.{MAGIC}
 use Rattle.segment_layout.specs.declared.start.Start.{Start}
 use Rattle.segment_layout.specs.declared.start.Start.TheVariants.{Fresh, Kept, Torn}
-use Rattle.writer_reopen.specs.Opening.{is_old, fresh_steps, torn_steps, kept_steps, later_steps, opening_steps}
+use Rattle.segment_layout.specs.Image.{is_old_header}
+use Rattle.writer_reopen.specs.Opening.{fresh_steps, torn_steps, kept_steps, later_steps, opening_steps}
 
 -- the steps of an opening, by what it found
 abbrev pub steps_for : Layout → (old : Bool) → Start → List Act
@@ -23,13 +24,13 @@ steps_for layout old (Kept generation rec) = Load 0 ∷ Load 1 ∷ kept_steps ol
 fresh_are : (layout : Layout) (header : ℕ) → generation_in header ≡ 0 → later_steps layout header ≡ fresh_steps layout
 fresh_are layout header none = let test : (generation_in header == 0) ≡ true = grind (arith, nat_tests) in rw test refl
 
-torn_are : (layout : Layout) (header : ℕ) → generation_in header % 2 ≡ 1 → later_steps layout header ≡ torn_steps (is_old layout header) (generation_in header)
+torn_are : (layout : Layout) (header : ℕ) → generation_in header % 2 ≡ 1 → later_steps layout header ≡ torn_steps (is_old_header layout header) (generation_in header)
 torn_are layout header odd =
     let some : (generation_in header == 0) ≡ false = grind (arith, nat_tests) in
     let test : (generation_in header % 2 == 1) ≡ true = grind (arith, nat_tests) in
     rw (some, test) refl
 
-kept_are : (layout : Layout) (header : ℕ) → 0 < generation_in header → generation_in header % 2 ≡ 0 → later_steps layout header ≡ kept_steps (is_old layout header) (generation_in header)
+kept_are : (layout : Layout) (header : ℕ) → 0 < generation_in header → generation_in header % 2 ≡ 0 → later_steps layout header ≡ kept_steps (is_old_header layout header) (generation_in header)
 kept_are layout header positive even =
     let some : (generation_in header == 0) ≡ false = grind (arith, nat_tests) in
     let test : (generation_in header % 2 == 1) ≡ false = grind (arith, nat_tests) in
@@ -42,17 +43,17 @@ IsFoundBy generation (Torn found) = (generation ≡ found) × (found % 2 ≡ 1)
 IsFoundBy generation (Kept found rec) = (generation ≡ found) × (found % 2 ≡ 0) × (0 < found)
 
 -- its acts are told by what it finds
-pub steps_by_found : (layout : Layout) (header : ℕ) (start : Start) → IsFoundBy (generation_in header) start → opening_steps layout header ≡ steps_for layout (is_old layout header) start
+pub steps_by_found : (layout : Layout) (header : ℕ) (start : Start) → IsFoundBy (generation_in header) start → opening_steps layout header ≡ steps_for layout (is_old_header layout header) start
 steps_by_found layout header Fresh found = ap (λ (acts : List Act). Load 0 ∷ Load 1 ∷ acts) (fresh_are layout header found)
 steps_by_found layout header (Torn generation) found =
     let same : generation_in header ≡ generation = found.0 in
     let odd = found.1 in
-    ap (λ (acts : List Act). Load 0 ∷ Load 1 ∷ acts) (torn_are layout header (omega (arith, same, odd)) ∙ ap (torn_steps (is_old layout header)) same)
+    ap (λ (acts : List Act). Load 0 ∷ Load 1 ∷ acts) (torn_are layout header (omega (arith, same, odd)) ∙ ap (torn_steps (is_old_header layout header)) same)
 steps_by_found layout header (Kept generation rec) found =
     let same : generation_in header ≡ generation = found.0 in
     let even = found.1 in
     let some = found.2 in
-    ap (λ (acts : List Act). Load 0 ∷ Load 1 ∷ acts) (kept_are layout header (omega (arith, same, some)) (omega (arith, same, even)) ∙ ap (kept_steps (is_old layout header)) same)
+    ap (λ (acts : List Act). Load 0 ∷ Load 1 ∷ acts) (kept_are layout header (omega (arith, same, some)) (omega (arith, same, even)) ∙ ap (kept_steps (is_old_header layout header)) same)
 
 -- ---- its loads
 

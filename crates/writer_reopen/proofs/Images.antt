@@ -7,8 +7,8 @@ use Rattle.generation_word.specs.declared.layout.Layout.{Layout}
 use Rattle.generation_word.specs.Header.{generation_in}
 use Rattle.clock_gate.specs.declared.act.Act.{Act}
 use Rattle.clock_gate.specs.declared.act.Act.TheVariants.{Load, Store, End}
-use Rattle.segment_layout.specs.Image.{image_of}
-use Rattle.writer_reopen.specs.Opening.{is_old, fresh_steps, torn_steps, move_steps, kept_steps, opening_steps, OpenerState, opening_act, opening_given, loads_at, loaded_words, IsAdmitted, LoadsImage}
+use Rattle.segment_layout.specs.Image.{image_of, is_old_header}
+use Rattle.writer_reopen.specs.Opening.{fresh_steps, torn_steps, move_steps, kept_steps, opening_steps, OpenerState, opening_act, opening_given, loads_at, loaded_words, IsAdmitted, LoadsImage}
 use Rattle.writer_reopen.proofs.Openings.{by_cases, act-by_number}
 use Rattle.writer_reopen.proofs.OpeningLaws.{loaded-header}
 
@@ -137,7 +137,7 @@ both_cases P false false a b c x y z f t k = k
 steps_load : (layout : Layout) (header : ℕ) → LoadsThen 0 (loads_at header) (opening_steps layout header)
 steps_load layout header =
     let g : ℕ = generation_in header in
-    let old : Bool = is_old layout header in
+    let old : Bool = is_old_header layout header in
     both_cases (λ (n : ℕ) (acts : List Act). LoadsThen 0 n (Load 0 ∷ Load 1 ∷ acts)) (g == 0) (g % 2 == 1) 2 2 10 (fresh_steps layout) (torn_steps old g) (kept_steps old g)
     (refl, (refl, (no_load _ _, (no_load _ _, tt))))
     (refl, (refl, torn_none old g))

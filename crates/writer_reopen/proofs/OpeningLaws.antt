@@ -18,10 +18,10 @@ use Rattle.segment_layout.specs.declared.start.Start.TheVariants.{Fresh, Kept, T
 use Rattle.segment_layout.specs.declared.image_fault.ImageFault.{ImageFault}
 use Rattle.segment_layout.specs.declared.image_fault.ImageFault.TheVariants.{Magic}
 use Rattle.segment_layout.specs.Words.{fields_of_words}
-use Rattle.segment_layout.specs.Image.{has_magic, first_fault, header_tests, data_tests, unless, start_at, image_of}
+use Rattle.segment_layout.specs.Image.{has_magic, first_fault, header_tests, data_tests, unless, start_at, image_of, is_old_header}
 use Rattle.writer_reopen.specs.declared.opening.Opening.{Opening}
 use Rattle.writer_reopen.specs.Progress.{Ends, next_or_end}
-use Rattle.writer_reopen.specs.Opening.{version_in, is_old, by_generation, torn_steps, kept_steps, later_steps, opening_steps, moved_to, opening_for, opening_of, OpenerState, new_opener, opening_act, opening_given, opening_left, IsMoved, loaded_words}
+use Rattle.writer_reopen.specs.Opening.{version_in, by_generation, torn_steps, kept_steps, later_steps, opening_steps, moved_to, opening_for, opening_of, OpenerState, new_opener, opening_act, opening_given, opening_left, IsMoved, loaded_words}
 use Rattle.writer_reopen.proofs.Openings.{by_cases, asked_below, act-by_number, fields_of_ten, is_kept}
 
 -- ---- by all the values that were given
@@ -66,7 +66,7 @@ torn_count : (old : Bool) (g : ℕ) → length (torn_steps old g) ≡ (if old th
 torn_count true g = refl
 torn_count false g = refl
 
-is_torn : (layout : Layout) (header : ℕ) → generation_in header % 2 ≡ 1 → later_steps layout header ≡ torn_steps (is_old layout header) (generation_in header)
+is_torn : (layout : Layout) (header : ℕ) → generation_in header % 2 ≡ 1 → later_steps layout header ≡ torn_steps (is_old_header layout header) (generation_in header)
 is_torn layout header odd =
     let some_number : (generation_in header == 0) ≡ false = grind (arith, nat_tests) in
     let test : (generation_in header % 2 == 1) ≡ true = grind (arith, nat_tests) in
@@ -76,18 +76,18 @@ two_more : (b : Bool) (n x y : ℕ) → n ≡ (if b then x else y) → suc (suc 
 two_more true n x y is = ap (λ (k : ℕ). suc (suc k)) is
 two_more false n x y is = ap (λ (k : ℕ). suc (suc k)) is
 
-pub torn_length : (layout : Layout) (header : ℕ) → generation_in header % 2 ≡ 1 → length (opening_steps layout header) ≡ (if is_old layout header then 3 else 2)
+pub torn_length : (layout : Layout) (header : ℕ) → generation_in header % 2 ≡ 1 → length (opening_steps layout header) ≡ (if is_old_header layout header then 3 else 2)
 torn_length layout header odd =
-    two_more (is_old layout header) (length (later_steps layout header)) 1 0 (ap length (is_torn layout header odd) ∙ torn_count (is_old layout header) (generation_in header))
+    two_more (is_old_header layout header) (length (later_steps layout header)) 1 0 (ap length (is_torn layout header odd) ∙ torn_count (is_old_header layout header) (generation_in header))
 
 kept_count : (old : Bool) (g : ℕ) → length (kept_steps old g) ≡ (if old then 10 else 8)
 kept_count true g = refl
 kept_count false g = refl
 
-pub kept_length : (layout : Layout) (header : ℕ) → generation_in header ≢ 0 → generation_in header % 2 ≡ 0 → length (opening_steps layout header) ≡ (if is_old layout header then 12 else 10)
+pub kept_length : (layout : Layout) (header : ℕ) → generation_in header ≢ 0 → generation_in header % 2 ≡ 0 → length (opening_steps layout header) ≡ (if is_old_header layout header then 12 else 10)
 kept_length layout header not_zero even =
     let not_odd : generation_in header % 2 ≢ 1 = λ odd. absurd (omega arith) in
-    two_more (is_old layout header) (length (later_steps layout header)) 10 8 (ap length (is_kept layout header not_zero not_odd) ∙ kept_count (is_old layout header) (generation_in header))
+    two_more (is_old_header layout header) (length (later_steps layout header)) 10 8 (ap length (is_kept layout header not_zero not_odd) ∙ kept_count (is_old_header layout header) (generation_in header))
 
 -- ---- the move
 
@@ -118,20 +118,20 @@ proj_if : {A B : Type 0} (f : A → B) (b : Bool) (x y : A) → f (if b then x e
 proj_if f true x y = refl
 proj_if f false x y = refl
 
-moved_is : (layout : Layout) (values : List ℕ) → (opening_for layout values).moved ≡ by_generation (generation_in (slice_index values 1)) None None (moved_to (is_old layout (slice_index values 1)) (generation_in (slice_index values 1)))
+moved_is : (layout : Layout) (values : List ℕ) → (opening_for layout values).moved ≡ by_generation (generation_in (slice_index values 1)) None None (moved_to (is_old_header layout (slice_index values 1)) (generation_in (slice_index values 1)))
 moved_is layout values =
     let g : ℕ = generation_in (slice_index values 1) in
     let fresh : Opening = record { start = Fresh; moved = None } in
     let torn : Opening = record { start = Torn g; moved = None } in
-    let kept : Opening = record { start = Kept g (fields_of_words values); moved = moved_to (is_old layout (slice_index values 1)) g } in
+    let kept : Opening = record { start = Kept g (fields_of_words values); moved = moved_to (is_old_header layout (slice_index values 1)) g } in
     proj_if (λ (o : Opening). o.moved) (g == 0) fresh (if g % 2 == 1 then torn else kept)
     ∙ ap (λ (m : Option ℕ). if g == 0 then None else m) (proj_if (λ (o : Opening). o.moved) (g % 2 == 1) torn kept)
 
-old_is : (layout : Layout) (header : ℕ) → is_old layout header ≡ true → (layout ≡ Three) × (version_in header ≡ 2)
+old_is : (layout : Layout) (header : ℕ) → is_old_header layout header ≡ true → (layout ≡ Three) × (version_in header ≡ 2)
 old_is Two header is = absurd cc
 old_is Three header is = (refl, eqb-true (version_in header) 2 is)
 
-is_old_by : (layout : Layout) (header : ℕ) → layout ≡ Three → version_in header ≡ 2 → is_old layout header ≡ true
+is_old_by : (layout : Layout) (header : ℕ) → layout ≡ Three → version_in header ≡ 2 → is_old_header layout header ≡ true
 is_old_by Two header three version = absurd cc
 is_old_by Three header three version = grind (arith, nat_tests)
 
@@ -146,7 +146,7 @@ moved_fwd : (layout : Layout) (values : List ℕ) (n : ℕ) → slice_index valu
 moved_fwd layout values n fits is =
     let header : ℕ = slice_index values 1 in
     let g : ℕ = generation_in header in
-    let parts = moved_parts (g == 0) (g % 2 == 1) (is_old layout header) (even_after (period_of Three) g) n (sym (moved_is layout values) ∙ is) in
+    let parts = moved_parts (g == 0) (g % 2 == 1) (is_old_header layout header) (even_after (period_of Three) g) n (sym (moved_is layout values) ∙ is) in
     let old = old_is layout header parts.1.1.0 in
     let other = eqb-false (g % 2) 1 parts.1.0 in
     let even : g % 2 ≡ 0 = omega arith in
@@ -161,11 +161,11 @@ moved_back layout values n fits is =
     let even = is.even in
     let not_zero : (g == 0) ≡ false = grind (arith, nat_tests) in
     let not_odd : (g % 2 == 1) ≡ false = grind (arith, nat_tests) in
-    let old : is_old layout header ≡ true = is_old_by layout header is.layout_three is.version_two in
+    let old : is_old_header layout header ≡ true = is_old_by layout header is.layout_three is.version_two in
     let numbers = numbers_after header fits is.version_two is.even in
     moved_is layout values
-    ∙ ap (λ (b : Bool). if b then None else if g % 2 == 1 then None else moved_to (is_old layout header) g) not_zero
-    ∙ ap (λ (b : Bool). if b then None else moved_to (is_old layout header) g) not_odd
+    ∙ ap (λ (b : Bool). if b then None else if g % 2 == 1 then None else moved_to (is_old_header layout header) g) not_zero
+    ∙ ap (λ (b : Bool). if b then None else moved_to (is_old_header layout header) g) not_odd
     ∙ ap (λ (b : Bool). moved_to b g) old
     ∙ ap Some (numbers.1 ∙ sym is.next)
 
@@ -179,7 +179,7 @@ start_is layout values =
     let g : ℕ = generation_in (slice_index values 1) in
     let fresh : Opening = record { start = Fresh; moved = None } in
     let torn : Opening = record { start = Torn g; moved = None } in
-    let kept : Opening = record { start = Kept g (fields_of_words values); moved = moved_to (is_old layout (slice_index values 1)) g } in
+    let kept : Opening = record { start = Kept g (fields_of_words values); moved = moved_to (is_old_header layout (slice_index values 1)) g } in
     proj_if (λ (o : Opening). o.start) (g == 0) fresh (if g % 2 == 1 then torn else kept)
     ∙ ap (λ (s : Start). if g == 0 then Fresh else s) (proj_if (λ (o : Opening). o.start) (g % 2 == 1) torn kept)
 

@@ -13,10 +13,10 @@ use Rattle.segment_layout.specs.declared.start.Start.TheVariants.{Fresh, Kept, T
 use Rattle.segment_layout.specs.declared.image_fault.ImageFault.{ImageFault}
 use Rattle.segment_layout.specs.declared.image_fault.ImageFault.TheVariants.{Magic}
 use Rattle.segment_layout.specs.Words.{AreGoodWords, fields_of_words}
-use Rattle.segment_layout.specs.Image.{has_magic, first_fault, header_tests, data_tests, unless, start_at, image_of}
+use Rattle.segment_layout.specs.Image.{has_magic, first_fault, header_tests, data_tests, unless, start_at, image_of, is_old_header}
 use Rattle.segment_layout.proofs.Admitted.{good_from_tests}
 use Rattle.writer_reopen.specs.Progress.{Ends, end_of}
-use Rattle.writer_reopen.specs.Opening.{is_old, by_generation, torn_steps, move_steps, kept_steps, later_steps, opening_steps, opening_for, opening_of, OpenerState, opening_act, opening_given, opening_end, loaded_words, IsAdmitted}
+use Rattle.writer_reopen.specs.Opening.{by_generation, torn_steps, move_steps, kept_steps, later_steps, opening_steps, opening_for, opening_of, OpenerState, opening_act, opening_given, opening_end, loaded_words, IsAdmitted}
 use Rattle.writer_reopen.proofs.InOrder.{NoEnd, ended_past, act_of-in_order, ended_in_order, load_goes_on, store_goes_on, either_way}
 
 -- ---- nothing loaded yet
@@ -53,8 +53,8 @@ later_few : (layout : Layout) (header : ℕ) → NoEnd (later_steps layout heade
 later_few layout header =
     by_cases (λ (acts : List Act). NoEnd acts × (length acts ≤ 10)) (generation_in header) _ _ _
     (λ zero_number. ((store_goes_on _ _, (store_goes_on _ _, tt)), omega arith))
-    (λ other odd. torn_no_end (is_old layout header) (generation_in header))
-    (λ other even. kept_no_end (is_old layout header) (generation_in header))
+    (λ other odd. torn_no_end (is_old_header layout header) (generation_in header))
+    (λ other even. kept_no_end (is_old_header layout header) (generation_in header))
 
 pub steps_no_end : (layout : Layout) (header : ℕ) → NoEnd (opening_steps layout header)
 steps_no_end layout header = (load_goes_on 0, (load_goes_on 1, (later_few layout header).0))
@@ -175,7 +175,7 @@ admitted-one_more layout xs k i value h same is = subst (λ (values : List ℕ).
 -- ---- the end
 
 pub is_kept : (layout : Layout) (header : ℕ) → generation_in header ≢ 0 → generation_in header % 2 ≢ 1
-    → later_steps layout header ≡ kept_steps (is_old layout header) (generation_in header)
+    → later_steps layout header ≡ kept_steps (is_old_header layout header) (generation_in header)
 is_kept layout header not_zero not_odd =
     let some_number : (generation_in header == 0) ≡ false = grind (arith, nat_tests) in
     let even : (generation_in header % 2 == 1) ≡ false = grind (arith, nat_tests) in
@@ -190,8 +190,8 @@ ten_given : (state : OpenerState) → opening_act state ≡ End → generation_i
 ten_given state at_end not_zero not_odd =
     let header : ℕ = slice_index state.values 1 in
     let past : length (opening_steps state.layout header) ≤ length state.values = ended_after state at_end in
-    let same : length (later_steps state.layout header) ≡ length (kept_steps (is_old state.layout header) (generation_in header)) = ap length (is_kept state.layout header not_zero not_odd) in
-    let long = kept_long (is_old state.layout header) (generation_in header) in
+    let same : length (later_steps state.layout header) ≡ length (kept_steps (is_old_header state.layout header) (generation_in header)) = ap length (is_kept state.layout header not_zero not_odd) in
+    let long = kept_long (is_old_header state.layout header) (generation_in header) in
     omega arith
 
 header_same : (layout : Layout) (xs : List ℕ) (k : ℕ) → k ≤ length xs → opening_act (record { layout = layout; values = take k xs }) ≡ End → slice_index (take k xs) 1 ≡ slice_index xs 1

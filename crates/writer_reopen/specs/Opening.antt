@@ -11,18 +11,13 @@ use Rattle.clock_gate.specs.declared.act.Act.TheVariants.{Load, Store}
 use Rattle.segment_layout.specs.declared.words.TheConstants.{MAGIC}
 use Rattle.segment_layout.specs.declared.start.Start.TheVariants.{Fresh, Kept, Torn}
 use Rattle.segment_layout.specs.Words.{fields_of_words}
-use Rattle.segment_layout.specs.Image.{image_of}
+use Rattle.segment_layout.specs.Image.{image_of, is_old_header}
 use Rattle.writer_reopen.specs.declared.opening.Opening.{Opening}
 use Rattle.writer_reopen.specs.Progress.{Progress, in_order, act_of, end_of}
 
 -- the version and the generation that a header tells
 abbrev pub version_in : ℕ → ℕ
 version_in header = (header_of header).1
-
--- a segment of layout 3 whose header is still of version 2
-abbrev pub is_old : Layout → ℕ → Bool
-is_old Two header = false
-is_old Three header = version_in header == 2
 
 -- one of three values, by what the generation says: nothing was published, an update was abandoned, or there is a record
 abbrev pub by_generation : {Value : Type 0} → ℕ → (fresh torn kept : Value) → Value
@@ -52,8 +47,8 @@ abbrev pub later_steps : Layout → (header : ℕ) → List Act
 later_steps layout header =
     by_generation (generation_in header)
     (fresh_steps layout)
-    (torn_steps (is_old layout header) (generation_in header))
-    (kept_steps (is_old layout header) (generation_in header))
+    (torn_steps (is_old_header layout header) (generation_in header))
+    (kept_steps (is_old_header layout header) (generation_in header))
 
 -- the steps of an opening that meets this header, in their order
 abbrev pub opening_steps : Layout → (header : ℕ) → List Act
@@ -71,7 +66,7 @@ opening_for layout values =
     (record { start = Torn (generation_in (slice_index values 1)); moved = None })
     (record {
       start = Kept (generation_in (slice_index values 1)) (fields_of_words values);
-      moved = moved_to (is_old layout (slice_index values 1)) (generation_in (slice_index values 1));
+      moved = moved_to (is_old_header layout (slice_index values 1)) (generation_in (slice_index values 1));
     })
 
 -- where an opening stands that was given these values, the first for its first step: what it wants next, or its answer

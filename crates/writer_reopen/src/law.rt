@@ -7,10 +7,10 @@ ghost use Rattle.generation_word.specs.declared.layout.Layout.TheVariants.{Three
 ghost use Rattle.generation_word.specs.Layout.{period_of};
 ghost use Rattle.generation_word.specs.Numbering.{odd_after, even_after};
 ghost use Rattle.segment_layout.specs.declared.start.Start.{Start};
-ghost use Rattle.segment_layout.specs.Image.{image_of};
+ghost use Rattle.segment_layout.specs.Image.{image_of, is_old_header};
 ghost use Rattle.writer_reopen.specs.declared.opening.Opening.{Opening};
 ghost use Rattle.writer_reopen.specs.Progress.{Ends};
-ghost use Rattle.writer_reopen.specs.Opening.{version_in, is_old, opening_steps, opening_for, opening_of, OpenerState, new_opener, opening_act, opening_given, opening_left, IsMoved, loaded_words, IsAdmitted, LoadsImage};
+ghost use Rattle.writer_reopen.specs.Opening.{version_in, opening_steps, opening_for, opening_of, OpenerState, new_opener, opening_act, opening_given, opening_left, IsMoved, loaded_words, IsAdmitted, LoadsImage};
 ghost use Rattle.generation_word.specs.Header.{generation_in};
 ghost use Rattle.segment_layout.specs.declared.publication.Publication.{Publication};
 ghost use Rattle.status_machine.specs.declared.daemon.Daemon.{Daemon};
@@ -28,8 +28,8 @@ pub fn opening_laws()
 
     // It takes 4 steps in a segment at generation 0, 2 or 3 after an abandoned update, and else 10 or 12.
     ensures fresh_steps { (layout : Layout) (header : ℕ) → generation_in header ≡ 0 → length (opening_steps layout header) ≡ 4 }
-    ensures torn_steps { (layout : Layout) (header : ℕ) → generation_in header % 2 ≡ 1 → length (opening_steps layout header) ≡ (if is_old layout header then 3 else 2) }
-    ensures kept_steps { (layout : Layout) (header : ℕ) → generation_in header ≢ 0 → generation_in header % 2 ≡ 0 → length (opening_steps layout header) ≡ (if is_old layout header then 12 else 10) }
+    ensures torn_steps { (layout : Layout) (header : ℕ) → generation_in header % 2 ≡ 1 → length (opening_steps layout header) ≡ (if is_old_header layout header then 3 else 2) }
+    ensures kept_steps { (layout : Layout) (header : ℕ) → generation_in header ≢ 0 → generation_in header % 2 ≡ 0 → length (opening_steps layout header) ≡ (if is_old_header layout header then 12 else 10) }
     ensures most { (layout : Layout) (values : List ℕ) → WereAsked opening_act opening_given (new_opener layout) values → length values ≤ 12 }
     ensures nearer { (state : OpenerState) (value : ℕ) → opening_act state ≢ End → opening_left (opening_given state value) < opening_left state }
 

@@ -5,7 +5,8 @@ ghost use Rattle.generation_word.specs.Layout.{period_of};
 ghost use Rattle.generation_word.specs.Numbering.{odd_after, even_after};
 ghost use Rattle.generation_word.specs.Header.{header_of};
 ghost use Rattle.segment_layout.specs.Words.{AreGoodWords, fields_of_words};
-ghost use Rattle.writer_reopen.specs.Opening.{is_old, fresh_steps, torn_steps, kept_steps, later_steps, opening_steps, moved_to, opening_for, new_opener, opening_act, opening_given, opening_end, opening_left, IsAdmitted};
+ghost use Rattle.segment_layout.specs.Image.{is_old_header};
+ghost use Rattle.writer_reopen.specs.Opening.{fresh_steps, torn_steps, kept_steps, later_steps, opening_steps, moved_to, opening_for, new_opener, opening_act, opening_given, opening_end, opening_left, IsAdmitted};
 ghost use Rattle.generation_word.specs.Header.{generation_in};
 
 use crate::opening::Opening;
@@ -103,7 +104,7 @@ impl Opener {
         }
         Opening {
             start: Start::Kept(generation, self.record()),
-            moved: moved_to(is_old(self.layout, self.values[1]), generation),
+            moved: moved_to(is_old_header(self.layout, self.values[1]), generation),
         }
     }
 
@@ -134,7 +135,7 @@ fn later_act(layout: Layout, header: u64, made: u8) -> Act
     ensures { result ≡ slice_index_or (later_steps layout header) made End }
 {
     let generation = split_word1(header).2;
-    let old = is_old(layout, header);
+    let old = is_old_header(layout, header);
     if generation == 0 {
         return fresh_act(layout, made);
     }
@@ -150,7 +151,7 @@ fn steps_in(layout: Layout, header: u64) -> u8
     ensures { result ≡ length (opening_steps layout header) }
 {
     let generation = split_word1(header).2;
-    let old = is_old(layout, header);
+    let old = is_old_header(layout, header);
     if generation == 0 {
         return 4;
     }
@@ -172,8 +173,8 @@ fn kept_count(old: bool) -> u8
     if old { 12 } else { 10 }
 }
 
-fn is_old(layout: Layout, header: u64) -> bool
-    ensures { result ≡ is_old layout header }
+fn is_old_header(layout: Layout, header: u64) -> bool
+    ensures { result ≡ is_old_header layout header }
 {
     match layout {
         Layout::Two => false,

@@ -1,6 +1,6 @@
 -- A read of the page in the abstract run: its tries over what the sequence count shows.
 use Rattle.std.specs.Prelude.{ℕ, ◌-◌, Bool, true, false, not, ◌||◌, nat_le, ◌==◌, if◌then◌else◌, Option, Some, None}
-use Rattle.abstract_run.specs.RunHost.{PageShown, sequence_of}
+use Rattle.abstract_run.specs.HostRun.{PageShown, sequence_of}
 
 -- a try in hand: the page that its first load showed, and whether its marker is loaded
 pub record PageTry : Type 0 where

@@ -16,8 +16,8 @@ use Rattle.status_machine.specs.Base.{base_number}
 use Rattle.segment_run.specs.SegmentRun.{SegmentRun, is_old, start_found, opening_length, opening_effect, number_shown, number_at, stored}
 use Rattle.abstract_run.specs.declared.event.Event.{Event}
 use Rattle.abstract_run.specs.declared.event.Event.TheVariants.{Opened, Moved, Published, Skipped, Stopped}
-use Rattle.abstract_run.specs.RunHost.{HostRun, clocks_at, page_shown, marker_of, sequence_of}
-use Rattle.abstract_run.specs.RunPage.{PageReading, PageAfter, Looks, Saw, Missed, page_reading, page_load, is_marker_next}
+use Rattle.abstract_run.specs.HostRun.{HostRun, clocks_at, page_shown, marker_of, sequence_of}
+use Rattle.abstract_run.specs.PageReading.{PageReading, PageAfter, Looks, Saw, Missed, page_reading, page_load, is_marker_next}
 
 -- an incarnation with its polls whose reply was taken, the newest first; skipped polls aren't among them
 pub record Life : Type 0 where

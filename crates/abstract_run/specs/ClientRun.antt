@@ -14,9 +14,9 @@ use Rattle.interval_now.specs.declared.answers.Answer.{Answer}
 use Rattle.interval_now.specs.declared.answers.Answer.TheVariants as answers
 use Rattle.interval_now.specs.Interval.{interval_of}
 use Rattle.abstract_run.specs.declared.event.Trail.{Trail}
-use Rattle.abstract_run.specs.RunHost.{HostRun, clocks_at, page_shown, marker_of, sequence_of}
-use Rattle.abstract_run.specs.RunPage.{PageReading, PageAfter, Looks, Saw, Missed, page_reading, page_load, is_marker_next}
-use Rattle.abstract_run.specs.RunDaemon.{marked_by}
+use Rattle.abstract_run.specs.HostRun.{HostRun, clocks_at, page_shown, marker_of, sequence_of}
+use Rattle.abstract_run.specs.PageReading.{PageReading, PageAfter, Looks, Saw, Missed, page_reading, page_load, is_marker_next}
+use Rattle.abstract_run.specs.DaemonRun.{marked_by}
 
 -- ---- a read of the segment
 
