@@ -1,5 +1,5 @@
 -- Why a poll answers as it does, by its steps.
-use Rattle.std.proofs.Common.{◌≡◌, ◌≢◌, ℕ, zero, suc, ◌+◌, ◌<◌, ◌≤◌, ◌⊎◌, inl, inr, Bool, true, false, List, [], ◌∷◌, refl, sym, ap, ◌∙◌, subst, arith, Option, Some, None}
+use Rattle.std.proofs.Common.{◌≡◌, ◌≢◌, ℕ, zero, suc, ◌+◌, ◌<◌, ◌≤◌, ◌⊎◌, inl, inr, Bool, true, false, List, [], ◌∷◌, length, refl, sym, ap, ◌∙◌, subst, arith, Option, Some, None}
 use Rattle.std.specs.Prelude.{◌↔◌, nat_lt, slice_index_or, if◌then◌else◌}
 use Rattle.std.proofs.lemmas.Bool.{cases_eq, cases_lt}
 use Rattle.std.proofs.lemmas.Bool.Decides.{nat_tests}
@@ -27,7 +27,7 @@ use Rattle.writer_reopen.specs.declared.stage.Stage.{Stage}
 use Rattle.writer_reopen.specs.declared.stage.Stage.TheVariants.{Asking, Looking, Taking, Storing}
 use Rattle.writer_reopen.specs.declared.stage.Taken.{Taken}
 use Rattle.writer_reopen.specs.Causes.{IsSkipped, IsStopped, IsPublished}
-use Rattle.writer_reopen.specs.Poll.{reading_at, taken_for, polled_by, storing_of, from_second_load, from_sight, from_tries, poll_of}
+use Rattle.writer_reopen.specs.Poll.{reading_at, taken_for, stores_until, polled_by, storing_of, from_second_load, from_sight, from_tries, poll_of}
 use Rattle.writer_reopen.specs.PollMachine.{Polling, new_polling, looking_by, stage_progress, stage_given, stage_seen, polling_progress, polling_act, polling_given, polling_end, IsUnseen, IsUpdate, IsPollStage}
 use Rattle.writer_reopen.specs.Progress.{Progress, Asks, Ends, act_of, end_of, in_order}
 use Rattle.writer_reopen.proofs.Cut.{act_before_stop, act_at_stop}
@@ -57,7 +57,7 @@ no_page_store : (at : tries.Progress) (word value : ℕ) → tries.act_of at ≡
 no_page_store (tries.Asks w) word value e = cc e
 no_page_store (tries.Ends outcome) word value e = cc e
 
-looking_no_store : (read : SeqlockRead) (end : Option PageSeen) (word value : ℕ) → IsUnseen end → act_of (looking_by (page.act_of read) end) ≡ Store word value → ⊥
+pub looking_no_store : (read : SeqlockRead) (end : Option PageSeen) (word value : ℕ) → IsUnseen end → act_of (looking_by (page.act_of read) end) ≡ Store word value → ⊥
 looking_no_store read None word value unseen e = no_page_store (tries.progress page_lock read) word value e
 looking_no_store read (Some (Busy first last)) word value unseen e = cc e
 looking_no_store read (Some (Marker marker sequence)) word value unseen e = absurd unseen
@@ -181,7 +181,7 @@ only_answer (act ∷ acts) answer polled (suc made) e = only_answer acts answer 
 
 later : (order : Order) (asked : Reading) (seen : Option Sight) (values : List ℕ) (polled : Polled) → end_of (from_second_load order asked seen values) ≡ Some polled → (taken : Taken) × (polled_by order.stop taken ≡ polled)
 later order asked seen [] polled e = absurd (cc e)
-later order asked seen (row ∷ values) polled e = (taken_for order asked seen row, only_answer _ (polled_by order.stop (taken_for order asked seen row)) polled _ e)
+later order asked seen (row ∷ values) polled e = (taken_for order asked seen row, only_answer (stores_until order.stop (stores (taken_for order asked seen row).publication.rec order.layout order.generation)) (polled_by order.stop (taken_for order asked seen row)) polled (length values) e)
 
 never_skipped : (stop : Option ℕ) (taken : Taken) (first last : ℕ) → polled_by stop taken ≡ Skipped first last → ⊥
 never_skipped None taken first last e = cc e
@@ -221,7 +221,7 @@ seen_answer : (order : Order) (asked : Reading) (touches : List Touch) (polled :
     → end_of (from_sight order asked seen rest) ≡ Some polled → Answered order touches polled
 seen_answer order asked touches polled rest (Busy first last) has is e = OfPage first last (has, is) (cc e)
 seen_answer order asked touches polled rest (Marker marker sequence) has is e =
-    let l = later order asked _ rest polled e in OfStop l.0 (λ on. (marker, sequence, is)) l.1
+    let l = later order asked (Some (record { marker = marker; sequence = sequence })) rest polled e in OfStop l.0 (λ on. (marker, sequence, is)) l.1
 
 way_answer : (order : Order) (asked : Reading) (touches : List Touch) (polled : Polled) (poll : Progress Polled) (read : tries.Progress) → order.daemon.support ≡ true → page_by order.tries touches ≡ page_seen (tries.end_of read)
     → Way order asked poll read → end_of poll ≡ Some polled → Answered order touches polled

@@ -197,14 +197,14 @@ replays_more clock order before after touch p act is r = rw is (
 
 -- ---- the first load
 
-pub polling_first : (clock : List ClockRow) (order : Order) (v x : SeatView) (n : ℕ) → MayBegin clock order v → v.is_daemon ≡ true → TellsLoad true 23 v n n x → IsPolling clock order v (polling_given clock (new_polling order) n) x
-polling_first clock order v x n may daemon t =
+pub polling_first : (clock : List ClockRow) (order : Order) (v x : SeatView) (n : ℕ) → MayBegin clock order v → TellsLoad true 23 v n n x → IsPolling clock order v (polling_given clock (new_polling order) n) x
+polling_first clock order v x n may t =
     let l = loads_told true 23 n v x t in
     let ties = load_ties clock order stages.Asking 23 n true v v x may.fits may.rows may.all may.support tt tt refl refl t in
     let steps : touches_of x.steps ≡ touch_at 23 n ∷ [] = ap touches_of l.steps in
     let r : Replays clock order (touches_of x.steps) (polling_given clock (new_polling order) n) = replays_more clock order [] (touches_of x.steps) (touch_at 23 n) (new_polling order) refl steps (tt, refl) in
     record {
-      daemon = l.is_daemon ∙ daemon;
+      daemon = l.is_daemon ∙ may.daemon;
       setup = l.setup;
       calls = l.calls;
       same_order = refl;
@@ -213,7 +213,7 @@ polling_first clock order v x n may daemon t =
       wanted = r.0;
       now = r.1;
       sound = ran_first v x 23 n l;
-      points = follows_first v x 23 n daemon l;
+      points = follows_first v x 23 n may.daemon l;
       ties = ties.1;
     }
 
@@ -411,10 +411,10 @@ number_small segment =
     let flag = flag_most segment.is_writing in
     omega (arith, most, flag)
 
-pub may_begin : (clock : List ClockRow) (v : SeatView) (daemon : Daemon) (generation number : ℕ) (heard : Heard) (stop : Option ℕ) (tries : ℕ) → IsDaemonPart v → OpenAt generation v → daemon.support ≡ is_some v.setup.page
+pub may_begin : (clock : List ClockRow) (v : SeatView) (daemon : Daemon) (generation number : ℕ) (heard : Heard) (stop : Option ℕ) (tries : ℕ) → v.is_daemon ≡ true → IsDaemonPart v → OpenAt generation v → daemon.support ≡ is_some v.setup.page
     → daemon.drift ≤ MOST_DRIFT → IfSome daemon.base BaseFits → length clock ≡ v.setup.rows → AreRows clock → 0 < tries → tries ≤ MOST_TRIES → IfSome stop (λ s. s ≤ MOST_STORES)
     → MayBegin clock (order_for v daemon number heard stop tries) v
-may_begin clock v daemon generation number heard stop tries own open_is support drift base all rows some_tries most_tries stops =
+may_begin clock v daemon generation number heard stop tries is own open_is support drift base all rows some_tries most_tries stops =
     let small = number_small v.daemon_part.segment in
     record {
       fits = record {
@@ -427,17 +427,18 @@ may_begin clock v daemon generation number heard stop tries own open_is support 
       rows = rows;
       all = all;
       support = support;
+      daemon = is;
       own = own;
       layout = refl;
       number = refl;
       header = open_is.1;
     }
 
--- the machine begins with the number that the seat keeps, which is that of word 1
-pub begun_as : (v : SeatView) (daemon : Daemon) (layout : Layout) (generation number : ℕ) (heard : Heard) (stop : Option ℕ) (tries : ℕ) → layout ≡ v.setup.layout → OpenAt generation v
-    → new_polling (record { daemon = daemon; layout = layout; generation = generation; number = number; heard = heard; stop = stop; tries = tries }) ≡ new_polling (order_for v daemon number heard stop tries)
-begun_as v daemon layout generation number heard stop tries same open_is =
-    λ j. new_polling (record { daemon = daemon; layout = same j; generation = open_is.0 j; number = number; heard = heard; stop = stop; tries = tries })
+-- the number that the seat keeps is that of word 1
+pub same_order : (v : SeatView) (daemon : Daemon) (layout : Layout) (generation number : ℕ) (heard : Heard) (stop : Option ℕ) (tries : ℕ) → layout ≡ v.setup.layout → OpenAt generation v
+    → record { daemon = daemon; layout = layout; generation = generation; number = number; heard = heard; stop = stop; tries = tries } ≡ order_for v daemon number heard stop tries
+same_order v daemon layout generation number heard stop tries same open_is =
+    λ j. record { daemon = daemon; layout = same j; generation = open_is.0 j; number = number; heard = heard; stop = stop; tries = tries }
 
 -- what a load may be, and what it finds
 pub may_wanted : (clock : List ClockRow) (order : Order) (v w : SeatView) (p : Polling) (word : ℕ) → MayBegin clock order v → IsPolling clock order v p w → polling_act p ≡ Load word → MayLoadWord word w

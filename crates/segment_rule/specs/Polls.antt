@@ -56,13 +56,14 @@ abbrev pub order_for : SeatView → Daemon → (number : ℕ) → Heard → (sto
 order_for v daemon number heard stop tries =
     record { daemon = daemon; layout = v.setup.layout; generation = number_shown v.daemon_part.segment; number = number; heard = heard; stop = stop; tries = tries }
 
--- what a poll begins with: the order fits, the clock is the table's, the daemon has the table's support, and the number is that of
--- word 1, which isn't 0
+-- what a poll on the daemon's seat begins with: the order fits, the clock is the table's, the daemon has the table's support, and
+-- the number is that of word 1, which isn't 0
 pub record MayBegin (clock : List ClockRow) (order : Order) (v : SeatView) : Type 0 where
   pub fits : OrderFits order
   pub rows : AreRows clock
   pub all : length clock ≡ v.setup.rows
   pub support : order.daemon.support ≡ is_some v.setup.page
+  pub daemon : v.is_daemon ≡ true
   pub own : IsDaemonPart v
   pub layout : order.layout ≡ v.setup.layout
   pub number : order.generation ≡ number_shown v.daemon_part.segment

@@ -5,14 +5,12 @@ use Rattle.segment_rule.proofs.Polling.{IsPolling, may_wanted, polling_first, po
 use Rattle.segment_rule.proofs.daemon.DaemonSeat.run_poll.Goals as goal
 
 pub polling-init : goal.polling-init
-polling-init c =
-    let daemon = ap (λ s. s.view.is_daemon) (sym c.self.view_is) ∙ c.self.invariant.1 in
-    record {
+polling-init c = record {
       table = c.first-value.ensures.table;
       shut = c.first-value.ensures.shut;
       polling = subst (λ (p : Polling). IsPolling c.args.clock.now c.args.machine.order c.args.self.now.view p c.first-value.new.self.view)
           (sym (c.give.ensures.given ∙ ap (λ (p : Polling). polling_given c.args.clock.now p c.first-value.result) c.requires.first))
-          (polling_first c.args.clock.now c.args.machine.order c.args.self.now.view c.first-value.new.self.view c.first-value.result c.requires.may daemon c.first-value.ensures.tells);
+          (polling_first c.args.clock.now c.args.machine.order c.args.self.now.view c.first-value.new.self.view c.first-value.result c.requires.may c.first-value.ensures.tells);
     }
 
 pub load-value-requires-clause-may : goal.load-value-requires-clause-may
