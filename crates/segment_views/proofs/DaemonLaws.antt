@@ -211,19 +211,19 @@ head_law c a words views id v n kept at may =
     let o = own c a words views id v kept at may.0 in
     let value = own_number c v.daemon_part words v n (number_shown v.daemon_part.segment) o.shows ((kept.seats id v at).daemon may.0).2 may.3 in
     header_step c a words views id v n with_head kept at may.0
-        record {
-          shows = o.shows;
-          magic = the_magic c v.daemon_part words o.shows may.1;
-          is = headed_is v.daemon_part.segment o.shows.shows.is;
-          later = headed_later v.daemon_part.segment may.2;
-          header = value;
-          data_words = λ word low high. refl;
-          hand = none_fits (headed v.daemon_part.segment);
-          sane = o.shows.sane;
-          published = o.published;
-          in_hand = λ on. absurd (omega arith);
-          point = head_point v.daemon_part.segment n value;
-        }
+    record {
+      shows = o.shows;
+      magic = the_magic c v.daemon_part words o.shows may.1;
+      is = headed_is v.daemon_part.segment o.shows.shows.is;
+      later = headed_later v.daemon_part.segment may.2;
+      header = value;
+      data_words = λ word low high. refl;
+      hand = none_fits (headed v.daemon_part.segment);
+      sane = o.shows.sane;
+      published = o.published;
+      in_hand = λ on. absurd (omega arith);
+      point = head_point v.daemon_part.segment n value;
+    }
 
 -- ---- a publication
 
@@ -235,25 +235,25 @@ odd_law e c a words views id v n kept at may =
     let begun : List Begun = record { rec = e.rec; stores = 1 } ∷ v.daemon_part.segment.begun in
     let value = own_number c v.daemon_part words v n (number_at v.daemon_part.segment v.daemon_part.segment.position + 1) o.shows fix may.2 in
     header_step c a words views id v n (update_begun e) kept at may.0
-        record {
-          shows = o.shows;
-          magic = the_magic c v.daemon_part words o.shows may.1;
-          is = in_update_is v.daemon_part.segment (record { rec = e.rec; stores = 1 } ∷ v.daemon_part.segment.begun) o.shows.shows.is;
-          later = in_update_later v.daemon_part.segment (record { rec = e.rec; stores = 1 } ∷ v.daemon_part.segment.begun);
-          header = value;
-          data_words = λ word low high. stores_none v.daemon_part.segment.image e.rec v.daemon_part.segment.begun word low;
-          hand = record {
-            storing = λ on. record { writes = refl; headed = refl; few = omega arith; older = v.daemon_part.segment.begun; begun = refl; bounds = may.3 };
-            moving = λ m. absurd (cc m);
-          };
-          sane = o.shows.sane;
-          published = o.published;
-          in_hand = λ on. record {
-            rows = le_trans may.4 fits.seen.rows;
-            page = le_trans (subst (λ (x : Setup). 2 * page_number_of (count_of x.page) e.sequence ≤ v.seen.page_point) fix may.5) fits.seen.page_point;
-          };
-          point = odd_point_by v.daemon_part.segment.layout v.daemon_part.segment.position v.daemon_part.segment.is_writing n value;
-        }
+    record {
+      shows = o.shows;
+      magic = the_magic c v.daemon_part words o.shows may.1;
+      is = in_update_is v.daemon_part.segment (record { rec = e.rec; stores = 1 } ∷ v.daemon_part.segment.begun) o.shows.shows.is;
+      later = in_update_later v.daemon_part.segment (record { rec = e.rec; stores = 1 } ∷ v.daemon_part.segment.begun);
+      header = value;
+      data_words = λ word low high. stores_none v.daemon_part.segment.image e.rec v.daemon_part.segment.begun word low;
+      hand = record {
+        storing = λ on. record { writes = refl; headed = refl; few = omega arith; older = v.daemon_part.segment.begun; begun = refl; bounds = may.3 };
+        moving = λ m. absurd (cc m);
+      };
+      sane = o.shows.sane;
+      published = o.published;
+      in_hand = λ on. record {
+        rows = le_trans may.4 fits.seen.rows;
+        page = le_trans (subst (λ (x : Setup). 2 * page_number_of (count_of x.page) e.sequence ≤ v.seen.page_point) fix may.5) fits.seen.page_point;
+      };
+      point = odd_point_by v.daemon_part.segment.layout v.daemon_part.segment.position v.daemon_part.segment.is_writing n value;
+    }
 
 pub fill_law : (i : ℕ) → 2 ≤ i → i < 10 → KeepsRule i (MayFill i) (daemon_state (update_filled i)) (daemon_view (update_filled i) i) (TellsDaemonPart (update_filled i) i)
 fill_law i lo hi c a words views id v n kept at may =
@@ -302,19 +302,19 @@ even_law c a words views id v n kept at may =
     ap (λ (b : List Begun). last_store v.daemon_part.segment.image b word) begun ∙ stores_made v.daemon_part.segment.image v.daemon_part.hand.publication.rec h.older 9 word (omega arith) in
     let value = own_number c v.daemon_part words v n (number_at v.daemon_part.segment (v.daemon_part.segment.position + 1)) s ((kept.seats id v at).daemon may.0).2 may.2 in
     header_step c a words views id v n update_ended kept at may.0
-        record {
-          shows = s;
-          magic = writes_magic c v.daemon_part words s h.writes;
-          is = after_update_is v.daemon_part.segment v.daemon_part.hand.publication (one_store_more v.daemon_part.segment.begun) s.shows.is h.headed h.bounds holds;
-          later = after_update_later v.daemon_part.segment v.daemon_part.hand.publication (one_store_more v.daemon_part.segment.begun);
-          header = even_header v.daemon_part.segment v.daemon_part.hand.publication (one_store_more v.daemon_part.segment.begun) n h.headed value;
-          data_words = λ word low high. was word low high ∙ sym (holds word low high);
-          hand = none_fits (update_ended v).segment;
-          sane = λ known j lo hi. subst (λ x. IsGoodWord j x) (sym (s.shows.data_words j lo hi ∙ was j lo hi)) (record_words_good 0 v.daemon_part.hand.publication.rec h.bounds j lo hi);
-          published = entries-snoc c a.host_part v.daemon_part.segment.history v.daemon_part.hand.publication o.published (o.in_hand (omega arith));
-          in_hand = λ on. absurd (omega arith);
-          point = even_point v.daemon_part.segment n h.writes value;
-        }
+    record {
+      shows = s;
+      magic = writes_magic c v.daemon_part words s h.writes;
+      is = after_update_is v.daemon_part.segment v.daemon_part.hand.publication (one_store_more v.daemon_part.segment.begun) s.shows.is h.headed h.bounds holds;
+      later = after_update_later v.daemon_part.segment v.daemon_part.hand.publication (one_store_more v.daemon_part.segment.begun);
+      header = even_header v.daemon_part.segment v.daemon_part.hand.publication (one_store_more v.daemon_part.segment.begun) n h.headed value;
+      data_words = λ word low high. was word low high ∙ sym (holds word low high);
+      hand = none_fits (update_ended v).segment;
+      sane = λ known j lo hi. subst (λ x. IsGoodWord j x) (sym (s.shows.data_words j lo hi ∙ was j lo hi)) (record_words_good 0 v.daemon_part.hand.publication.rec h.bounds j lo hi);
+      published = entries-snoc c a.host_part v.daemon_part.segment.history v.daemon_part.hand.publication o.published (o.in_hand (omega arith));
+      in_hand = λ on. absurd (omega arith);
+      point = even_point v.daemon_part.segment n h.writes value;
+    }
 
 -- ---- the move
 
@@ -324,22 +324,22 @@ move_odd_law c a words views id v n kept at may =
     let s = o.shows in
     let value = own_number c v.daemon_part words v n (number_at v.daemon_part.segment v.daemon_part.segment.position + 1) s ((kept.seats id v at).daemon may.0).2 may.3 in
     header_step c a words views id v n move_begun kept at may.0
-        record {
-          shows = s;
-          magic = known_magic c v.daemon_part words s may.2;
-          is = in_update_is v.daemon_part.segment v.daemon_part.segment.begun s.shows.is;
-          later = in_update_later v.daemon_part.segment v.daemon_part.segment.begun;
-          header = value;
-          data_words = λ word low high. refl;
-          hand = record {
-            storing = λ on. absurd (omega arith);
-            moving = λ m. record { known = may.2; writes = refl; headed = refl; holds = s.shows.is.stands may.1 may.2 };
-          };
-          sane = s.sane;
-          published = o.published;
-          in_hand = λ on. absurd (omega arith);
-          point = odd_point_by v.daemon_part.segment.layout v.daemon_part.segment.position v.daemon_part.segment.is_writing n value;
-        }
+    record {
+      shows = s;
+      magic = known_magic c v.daemon_part words s may.2;
+      is = in_update_is v.daemon_part.segment v.daemon_part.segment.begun s.shows.is;
+      later = in_update_later v.daemon_part.segment v.daemon_part.segment.begun;
+      header = value;
+      data_words = λ word low high. refl;
+      hand = record {
+        storing = λ on. absurd (omega arith);
+        moving = λ m. record { known = may.2; writes = refl; headed = refl; holds = s.shows.is.stands may.1 may.2 };
+      };
+      sane = s.sane;
+      published = o.published;
+      in_hand = λ on. absurd (omega arith);
+      point = odd_point_by v.daemon_part.segment.layout v.daemon_part.segment.position v.daemon_part.segment.is_writing n value;
+    }
 
 pub move_even_law : KeepsRule 1 MayMoveEven (daemon_state move_ended) (daemon_view move_ended 1) (TellsDaemonPart move_ended 1)
 move_even_law c a words views id v n kept at may =
@@ -351,17 +351,17 @@ move_even_law c a words views id v n kept at may =
     let bounds = s.shows.is.records v.daemon_part.segment.position above (omega arith) in
     let value = own_number c v.daemon_part words v n (number_at v.daemon_part.segment (v.daemon_part.segment.position + 1)) s ((kept.seats id v at).daemon may.0).2 may.2 in
     header_step c a words views id v n move_ended kept at may.0
-        record {
-          shows = s;
-          magic = writes_magic c v.daemon_part words s h.writes;
-          is = after_update_is v.daemon_part.segment (published_at v.daemon_part.segment v.daemon_part.segment.position) v.daemon_part.segment.begun s.shows.is h.headed bounds h.holds;
-          later = after_update_later v.daemon_part.segment (published_at v.daemon_part.segment v.daemon_part.segment.position) v.daemon_part.segment.begun;
-          header = even_header v.daemon_part.segment (published_at v.daemon_part.segment v.daemon_part.segment.position) v.daemon_part.segment.begun n h.headed value;
-          data_words = λ word low high. refl;
-          hand = none_fits (moved_once v.daemon_part.segment);
-          sane = λ _. s.sane above;
-          published = entries-snoc c a.host_part v.daemon_part.segment.history (published_at v.daemon_part.segment v.daemon_part.segment.position) o.published
-              (entries_at c a.host_part v.daemon_part.segment.history (v.daemon_part.segment.position - v.daemon_part.segment.base - 1) o.published (omega arith));
-          in_hand = λ on. absurd (omega arith);
-          point = even_point v.daemon_part.segment n h.writes value;
-        }
+    record {
+      shows = s;
+      magic = writes_magic c v.daemon_part words s h.writes;
+      is = after_update_is v.daemon_part.segment (published_at v.daemon_part.segment v.daemon_part.segment.position) v.daemon_part.segment.begun s.shows.is h.headed bounds h.holds;
+      later = after_update_later v.daemon_part.segment (published_at v.daemon_part.segment v.daemon_part.segment.position) v.daemon_part.segment.begun;
+      header = even_header v.daemon_part.segment (published_at v.daemon_part.segment v.daemon_part.segment.position) v.daemon_part.segment.begun n h.headed value;
+      data_words = λ word low high. refl;
+      hand = none_fits (moved_once v.daemon_part.segment);
+      sane = λ _. s.sane above;
+      published = entries-snoc c a.host_part v.daemon_part.segment.history (published_at v.daemon_part.segment v.daemon_part.segment.position) o.published
+          (entries_at c a.host_part v.daemon_part.segment.history (v.daemon_part.segment.position - v.daemon_part.segment.base - 1) o.published (omega arith));
+      in_hand = λ on. absurd (omega arith);
+      point = even_point v.daemon_part.segment n h.writes value;
+    }

@@ -6,12 +6,12 @@ use Rattle.segment_rule.proofs.daemon.DaemonSeat.run_poll.Goals as goal
 
 pub polling-init : goal.polling-init
 polling-init c = record {
-      table = c.first-value.ensures.table;
-      shut = c.first-value.ensures.shut;
-      polling = subst (λ (p : Polling). IsPolling c.args.clock.now c.args.machine.order c.args.self.now.view p c.first-value.new.self.view)
-          (sym (c.give.ensures.given ∙ ap (λ (p : Polling). polling_given c.args.clock.now p c.first-value.result) c.requires.first))
-          (polling_first c.args.clock.now c.args.machine.order c.args.self.now.view c.first-value.new.self.view c.first-value.result c.requires.may c.first-value.ensures.tells);
-    }
+  table = c.first-value.ensures.table;
+  shut = c.first-value.ensures.shut;
+  polling = subst (λ (p : Polling). IsPolling c.args.clock.now c.args.machine.order c.args.self.now.view p c.first-value.new.self.view)
+      (sym (c.give.ensures.given ∙ ap (λ (p : Polling). polling_given c.args.clock.now p c.first-value.result) c.requires.first))
+      (polling_first c.args.clock.now c.args.machine.order c.args.self.now.view c.first-value.new.self.view c.first-value.result c.requires.may c.first-value.ensures.tells);
+}
 
 pub load-value-requires-clause-may : goal.load-value-requires-clause-may
 load-value-requires-clause-may c =
