@@ -95,7 +95,7 @@ store_now row v w m word value u act =
     row_store row (constants_of v.setup.page) m.count m.made word value
     ((λ j. slice_index_or (stores_in_hand (constants_of (sym u.start j)) m.count (sym u.same_row j)) m.made End) ∙ act)
 
--- ---- may it be made
+-- ---- the count
 
 word_even : (c : ℕ) (word count : ℕ) → c < 2 ^ 32 → word ≡ word_with_count c count → count_in_word word ≡ count
 word_even c word count small is = omega (arith, is, small)
@@ -127,39 +127,59 @@ within_page words made h low high =
 count_before : (words : List ℕ) (made count : ℕ) → made < 13 → count_after (Some (Page words)) made count ≡ count
 count_before words made count few = let last : (made == 13) ≡ false = ne_eqb made 13 (λ e. absurd (omega (arith, e, few))) in rw last refl
 
+-- ---- what a store of a page row is
+
+has_row : (row : HostRow) (v : SeatView) (words : List ℕ) → MayHostRow row v → row ≡ Page words → is_some v.setup.page ≡ true
+has_row row v words b row_is = has_page v.setup.page words (subst (λ (r : HostRow). IsRowOf v.setup.page r) row_is b.page)
+
+row_within : (row : HostRow) (v : SeatView) (words : List ℕ) (made : ℕ) → row ≡ Page words → 1 ≤ made → made < 13 → part_at row made v.host_part ≡ record v.host_part { stores = made; hand = words }
+row_within row v words made row_is low high = ap (λ (r : HostRow). part_at r made v.host_part) row_is ∙ within_page words made v.host_part low high
+
+-- a word from the marker on is neither the clock's nor the count's
+no_count : (word made : ℕ) → word ≡ made + 11 → 1 ≤ made → made < 12 → ((word == 23) ≡ false) × ((word == 11) ≡ false)
+no_count word made at low high = (ne_eqb word 23 (λ e. absurd (omega (arith, e, at, high))), ne_eqb word 11 (λ e. absurd (omega (arith, e, at, low))))
+
+-- the count at rest, raised by so much
+count_stored : (row : HostRow) (v : SeatView) (words : List ℕ) (made few raise value : ℕ) → row ≡ Page words → made ≡ few → few < 13 → value ≡ word_with_count (constants_of v.setup.page) (raised raise (count_after (Some row) made (count_at v)))
+    → value ≡ word_with_count (constants_of v.setup.page) (raised raise (count_at v))
+count_stored row v words made few raise value row_is made_is small is =
+    let count : count_after (Some row) made (count_at v) ≡ count_at v = (λ j. count_after (Some (row_is j)) (made_is j) (count_at v)) ∙ count_before words few (count_at v) small in
+    is ∙ ap (λ (n : ℕ). word_with_count (constants_of v.setup.page) (raised raise n)) count
+
+-- raised by one it is odd, by two even
+raised_odd : (v : SeatView) (value : ℕ) → count_at v % 2 ≡ 0 → value ≡ word_with_count (constants_of v.setup.page) (raised 1 (count_at v)) → (count_in_word value % 2 == 1) ≡ true
+raised_odd v value even is =
+    let told = word_even (constants_of v.setup.page) value (raised 1 (count_at v)) (constants_small v.setup.page) is in
+    let odd : count_in_word value % 2 ≡ 1 = omega (arith, told, even) in
+    grind (arith, nat_tests)
+
+raised_even : (v : SeatView) (value : ℕ) → count_at v % 2 ≡ 0 → value ≡ word_with_count (constants_of v.setup.page) (raised 2 (count_at v)) → (count_in_word value % 2 == 1) ≡ false
+raised_even v value even is =
+    let told = word_even (constants_of v.setup.page) value (raised 2 (count_at v)) (constants_small v.setup.page) is in
+    let still : count_in_word value % 2 ≡ 0 = omega (arith, told, even) in
+    grind (arith, nat_tests)
+
+-- ---- may it be made
+
 may_at : (row : HostRow) (v : SeatView) (made word value : ℕ) → MayHostRow row v → RowStore row (constants_of v.setup.page) (count_after (Some row) made (count_at v)) made word value → MayHost word value (view_at row made v)
 may_at row v made word value b (OfClock number row_is none at is) =
     let may : MayDoRow (Clock number) v = subst (λ (r : HostRow). MayDoRow r v) row_is b.may in
     subst (λ (x : HostRow × ℕ × ℕ). MayHost x.1 value (view_at x.0 x.2 v)) (λ j. (sym row_is j, sym at j, sym none j)) (is ∙ may.0, may.1)
 may_at row v made word value b (OfOdd words row_is none at is) =
-    let has : is_some v.setup.page ≡ true = has_page v.setup.page words (subst (λ (r : HostRow). IsRowOf v.setup.page r) row_is b.page) in
-    let even = b.even in
-    let small = constants_small v.setup.page in
-    let count : count_after (Some row) made (count_at v) ≡ count_at v = (λ j. count_after (Some (row_is j)) (none j) (count_at v)) ∙ count_before words 0 (count_at v) (omega arith) in
-    let is_odd : value ≡ word_with_count (constants_of v.setup.page) (raised 1 (count_at v)) = is ∙ ap (λ (n : ℕ). word_with_count (constants_of v.setup.page) (raised 1 n)) count in
-    let told = word_even (constants_of v.setup.page) value (raised 1 (count_at v)) small is_odd in
-    let parity : (count_in_word value % 2 == 1) ≡ true = (let x : count_in_word value % 2 ≡ 1 = omega (arith, told, even) in grind (arith, nat_tests)) in
+    let is_odd = count_stored row v words made 0 1 value row_is none (omega arith) is in
     subst (λ (x : HostRow × ℕ × ℕ). MayHost x.1 value (view_at x.0 x.2 v)) (λ j. (sym row_is j, sym at j, sym none j))
-    (to_left (count_in_word value % 2 == 1) _ _ parity (has, b.stores, is_odd ∙ ap (word_with_count (constants_of v.setup.page)) (odd_count v b.stores)))
+    (to_left (count_in_word value % 2 == 1) _ _ (raised_odd v value b.even is_odd) (has_row row v words b row_is, b.stores, is_odd ∙ ap (word_with_count (constants_of v.setup.page)) (odd_count v b.stores)))
 may_at row v made word value b (OfWord words row_is low high at is) =
-    let has : is_some v.setup.page ≡ true = has_page v.setup.page words (subst (λ (r : HostRow). IsRowOf v.setup.page r) row_is b.page) in
-    let part : part_at row made v.host_part ≡ record v.host_part { stores = made; hand = words } = ap (λ (r : HostRow). part_at r made v.host_part) row_is ∙ within_page words made v.host_part low (omega arith) in
-    let clock : (word == 23) ≡ false = ne_eqb word 23 (λ e. absurd (omega (arith, e, at, high))) in
-    let number : (word == 11) ≡ false = ne_eqb word 11 (λ e. absurd (omega (arith, e, at, low))) in
+    let other = no_count word made at low high in
     let place : made + 1 ≡ word - 10 = omega (arith, at) in
-    subst (λ (h : HostPart). MayHost word value (record v { host_part = h })) (sym part)
-    (to_right (word == 23) _ _ clock (to_right (word == 11) _ _ number (omega (arith, at, low), omega (arith, at, high), has, place, is ∙ ap (slice_index words) place)))
+    subst (λ (h : HostPart). MayHost word value (record v { host_part = h })) (sym (row_within row v words made row_is low (omega arith)))
+    (to_right (word == 23) _ _ other.0 (to_right (word == 11) _ _ other.1 (omega (arith, at, low), omega (arith, at, high), has_row row v words b row_is, place, is ∙ ap (slice_index words) place)))
 may_at row v made word value b (OfEven words row_is twelve at is) =
-    let has : is_some v.setup.page ≡ true = has_page v.setup.page words (subst (λ (r : HostRow). IsRowOf v.setup.page r) row_is b.page) in
+    let has = has_row row v words b row_is in
     let may : MayDoRow (Page words) v = subst (λ (r : HostRow). MayDoRow r v) row_is b.may in
-    let even = b.even in
-    let small = constants_small v.setup.page in
-    let count : count_after (Some row) made (count_at v) ≡ count_at v = (λ j. count_after (Some (row_is j)) (twelve j) (count_at v)) ∙ count_before words 12 (count_at v) (omega arith) in
-    let is_even : value ≡ word_with_count (constants_of v.setup.page) (raised 2 (count_at v)) = is ∙ ap (λ (n : ℕ). word_with_count (constants_of v.setup.page) (raised 2 n)) count in
-    let told = word_even (constants_of v.setup.page) value (raised 2 (count_at v)) small is_even in
-    let parity : (count_in_word value % 2 == 1) ≡ false = (let x : count_in_word value % 2 ≡ 0 = omega (arith, told, even) in grind (arith, nat_tests)) in
+    let is_even = count_stored row v words made 12 2 value row_is twelve (omega arith) is in
     subst (λ (x : HostRow × ℕ × ℕ). MayHost x.1 value (view_at x.0 x.2 v)) (λ j. (sym row_is j, sym at j, sym twelve j))
-    (to_right (count_in_word value % 2 == 1) _ _ parity (has, refl, may, is_even ∙ ap (word_with_count (constants_of v.setup.page)) (even_count v (b.pages has))))
+    (to_right (count_in_word value % 2 == 1) _ _ (raised_even v value b.even is_even) (has, refl, may, is_even ∙ ap (word_with_count (constants_of v.setup.page)) (even_count v (b.pages has))))
 
 pub may_store : (row : HostRow) (v w : SeatView) (m : Host) (word value : ℕ) → MayHostRow row v → HostAt row v m w → act_of m ≡ Store word value → MayHost word value w
 may_store row v w m word value b u act =
@@ -169,40 +189,29 @@ may_store row v w m word value b u act =
 
 -- ---- what it makes
 
+-- what a store tells, and the view after it, by the row and the number of its store
+told_at : (row : HostRow) (v x : SeatView) (same : HostRow) (made few word place value : ℕ) → row ≡ same → made ≡ few → word ≡ place → TellsHost (words_of_row row) word (view_at row made v) value value x
+    → TellsHost (words_of_row same) place (view_at same few v) value value x
+told_at row v x same made few word place value row_is made_is at t =
+    subst (λ (y : HostRow × ℕ × ℕ). TellsHost (words_of_row y.0) y.1 (view_at y.0 y.2 v) value value x) (λ j. (row_is j, at j, made_is j)) t
+
+next_at : (row : HostRow) (v : SeatView) (same : HostRow) (made few : ℕ) → row ≡ same → made ≡ few → view_at same (few + 1) v ≡ view_at row (made + 1) v
+next_at row v same made few row_is made_is = λ j. view_at (sym row_is j) (sym made_is j + 1) v
+
 after_at : (row : HostRow) (v x : SeatView) (made word value : ℕ) → MayHostRow row v → RowStore row (constants_of v.setup.page) (count_after (Some row) made (count_at v)) made word value
     → TellsHost (words_of_row row) word (view_at row made v) value value x → x ≡ view_at row (made + 1) v
-after_at row v x made word value b (OfClock number row_is none at is) t =
-    let told : TellsHost [] 23 (view_at (Clock number) 0 v) value value x =
-    subst (λ (y : HostRow × ℕ × ℕ). TellsHost (words_of_row y.0) y.1 (view_at y.0 y.2 v) value value x) (λ j. (row_is j, at j, none j)) t in
-    told ∙ (λ j. view_at (sym row_is j) (sym none j + 1) v)
+after_at row v x made word value b (OfClock number row_is none at is) t = told_at row v x (Clock number) made 0 word 23 value row_is none at t ∙ next_at row v (Clock number) made 0 row_is none
 after_at row v x made word value b (OfOdd words row_is none at is) t =
-    let even = b.even in
-    let small = constants_small v.setup.page in
-    let count : count_after (Some row) made (count_at v) ≡ count_at v = (λ j. count_after (Some (row_is j)) (none j) (count_at v)) ∙ count_before words 0 (count_at v) (omega arith) in
-    let is_odd : value ≡ word_with_count (constants_of v.setup.page) (raised 1 (count_at v)) = is ∙ ap (λ (n : ℕ). word_with_count (constants_of v.setup.page) (raised 1 n)) count in
-    let told_count = word_even (constants_of v.setup.page) value (raised 1 (count_at v)) small is_odd in
-    let parity : (count_in_word value % 2 == 1) ≡ true = (let y : count_in_word value % 2 ≡ 1 = omega (arith, told_count, even) in grind (arith, nat_tests)) in
-    let told : TellsHost words 11 (view_at (Page words) 0 v) value value x =
-    subst (λ (y : HostRow × ℕ × ℕ). TellsHost (words_of_row y.0) y.1 (view_at y.0 y.2 v) value value x) (λ j. (row_is j, at j, none j)) t in
-    of_left (count_in_word value % 2 == 1) _ _ parity told ∙ (λ j. view_at (sym row_is j) (sym none j + 1) v)
+    of_left (count_in_word value % 2 == 1) _ _ (raised_odd v value b.even (count_stored row v words made 0 1 value row_is none (omega arith) is)) (told_at row v x (Page words) made 0 word 11 value row_is none at t)
+    ∙ next_at row v (Page words) made 0 row_is none
 after_at row v x made word value b (OfWord words row_is low high at is) t =
-    let part : part_at row made v.host_part ≡ record v.host_part { stores = made; hand = words } = ap (λ (r : HostRow). part_at r made v.host_part) row_is ∙ within_page words made v.host_part low (omega arith) in
-    let next : part_at row (made + 1) v.host_part ≡ record v.host_part { stores = made + 1; hand = words } = ap (λ (r : HostRow). part_at r (made + 1) v.host_part) row_is ∙ within_page words (made + 1) v.host_part (omega arith) (omega arith) in
-    let clock : (word == 23) ≡ false = ne_eqb word 23 (λ e. absurd (omega (arith, e, at, high))) in
-    let number : (word == 11) ≡ false = ne_eqb word 11 (λ e. absurd (omega (arith, e, at, low))) in
+    let other = no_count word made at low high in
     let place : word - 10 ≡ made + 1 = omega (arith, at) in
-    let told : x ≡ record (view_at row made v) { host_part = page_filled (word - 10) (view_at row made v) } = of_right (word == 11) _ _ number (of_right (word == 23) _ _ clock t) in
-    told ∙ ((λ j. record v { host_part = record (part j) { stores = place j } }) ∙ (λ j. record v { host_part = sym next j }))
+    let told : x ≡ record (view_at row made v) { host_part = page_filled (word - 10) (view_at row made v) } = of_right (word == 11) _ _ other.1 (of_right (word == 23) _ _ other.0 t) in
+    told ∙ ((λ j. record v { host_part = record (row_within row v words made row_is low (omega arith) j) { stores = place j } }) ∙ (λ j. record v { host_part = sym (row_within row v words (made + 1) row_is (omega arith) (omega arith)) j }))
 after_at row v x made word value b (OfEven words row_is twelve at is) t =
-    let even = b.even in
-    let small = constants_small v.setup.page in
-    let count : count_after (Some row) made (count_at v) ≡ count_at v = (λ j. count_after (Some (row_is j)) (twelve j) (count_at v)) ∙ count_before words 12 (count_at v) (omega arith) in
-    let is_even : value ≡ word_with_count (constants_of v.setup.page) (raised 2 (count_at v)) = is ∙ ap (λ (n : ℕ). word_with_count (constants_of v.setup.page) (raised 2 n)) count in
-    let told_count = word_even (constants_of v.setup.page) value (raised 2 (count_at v)) small is_even in
-    let parity : (count_in_word value % 2 == 1) ≡ false = (let y : count_in_word value % 2 ≡ 0 = omega (arith, told_count, even) in grind (arith, nat_tests)) in
-    let told : TellsHost words 11 (view_at (Page words) 12 v) value value x =
-    subst (λ (y : HostRow × ℕ × ℕ). TellsHost (words_of_row y.0) y.1 (view_at y.0 y.2 v) value value x) (λ j. (row_is j, at j, twelve j)) t in
-    of_right (count_in_word value % 2 == 1) _ _ parity told ∙ (λ j. view_at (sym row_is j) (sym twelve j + 1) v)
+    of_right (count_in_word value % 2 == 1) _ _ (raised_even v value b.even (count_stored row v words made 12 2 value row_is twelve (omega arith) is)) (told_at row v x (Page words) made 12 word 11 value row_is twelve at t)
+    ∙ next_at row v (Page words) made 12 row_is twelve
 
 pub host_more : (row : HostRow) (v w x : SeatView) (m new : Host) (word value : ℕ) → MayHostRow row v → HostAt row v m w → act_of m ≡ Store word value → TellsHost (words_of_row row) word w value value x → new ≡ given m value → HostAt row v new x
 host_more row v w x m new word value b u act t is =

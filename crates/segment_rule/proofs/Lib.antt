@@ -3,6 +3,7 @@ pub mod Stepping
 pub mod Opening
 pub mod PageSeen
 pub mod Stores
+pub mod Causes
 pub mod Polling
 pub mod Hosting
 pub mod Times

@@ -1,10 +1,10 @@
 -- A poll that is under way, and what one step more makes of it.
-use Rattle.std.proofs.Common.{◌≡◌, ◌≢◌, ℕ, ◌+◌, ◌-◌, ◌*◌, ◌%◌, ◌<◌, ◌≤◌, ◌⊎◌, inl, inr, Bool, true, false, List, [], ◌∷◌, ◌++◌, length, refl, sym, ap, ◌∙◌, subst, arith, Option, Some, None}
-use Rattle.std.specs.Prelude.{◌==◌, slice_index_or, if◌then◌else◌, IfSome, is_some}
+use Rattle.std.proofs.Common.{◌≡◌, ◌≢◌, ℕ, ◌+◌, ◌-◌, ◌*◌, ◌%◌, ◌<◌, ◌≤◌, inl, inr, Bool, true, false, List, [], ◌∷◌, ◌++◌, length, refl, sym, ap, ◌∙◌, subst, arith, Option, Some, None}
+use Rattle.std.specs.Prelude.{◌==◌, if◌then◌else◌, IfSome, is_some}
 use Rattle.std.proofs.lemmas.Bool.{cases_eq, eqb-true}
 use Rattle.std.proofs.lemmas.Option.{slice_get-get_or}
 use Rattle.clock_gate.specs.declared.act.Act.{Act}
-use Rattle.clock_gate.specs.declared.act.Act.TheVariants.{Load, Store, End}
+use Rattle.clock_gate.specs.declared.act.Act.TheVariants.{Load, Store}
 use Rattle.clock_gate.specs.declared.clock_row.ClockRow.{ClockRow}
 use Rattle.clock_gate.specs.declared.clock_row.Reading.{Reading}
 use Rattle.clock_gate.specs.declared.limits.TheConstants.{LAST_MOMENT, MOST_DRIFT, MOST_STORES, MOST_TRIES}
@@ -26,7 +26,7 @@ use Rattle.vmclock_page.specs.Host.{count_of}
 use Rattle.vmclock_page.specs.Counting.{page_number_of}
 use Rattle.status_machine.specs.declared.daemon.Daemon.{Daemon}
 use Rattle.status_machine.proofs.Fits.{daemon_step-fits, record_of-fits}
-use Rattle.shm_writer.specs.Publisher.{Publishing, stores, publishing_act}
+use Rattle.shm_writer.specs.Publisher.{Publishing}
 use Rattle.writer_reopen.specs.declared.order.Order.{Order}
 use Rattle.writer_reopen.specs.declared.polled.Polled.{Polled}
 use Rattle.writer_reopen.specs.declared.polled.Polled.TheVariants.{Published, Skipped, Stopped}
@@ -35,10 +35,9 @@ use Rattle.writer_reopen.specs.declared.stage.Stage.{Stage}
 use Rattle.writer_reopen.specs.declared.stage.Stage.TheVariants as stages
 use Rattle.writer_reopen.specs.declared.stage.Taken.{Taken}
 use Rattle.writer_reopen.specs.Causes.{IsSkipped, IsStopped, IsPublished}
-use Rattle.writer_reopen.specs.Poll.{AreRows, reading_at, row_with, sequence_seen, poll_for, daemon_for, taken_for, storing_of}
-use Rattle.writer_reopen.specs.PollMachine.{Polling, new_polling, looking_by, stage_progress, polling_act, polling_given, polling_end, stage_seen, stage_given, IsUnseen, IsUpdate, IsPollStage, OrderFits, StageFits}
+use Rattle.writer_reopen.specs.Poll.{AreRows, reading_at, row_with, sequence_seen, poll_for, daemon_for, taken_for}
+use Rattle.writer_reopen.specs.PollMachine.{Polling, new_polling, looking_by, stage_progress, polling_act, polling_given, polling_end, stage_seen, stage_given, IsUnseen, IsPollStage, OrderFits, StageFits}
 use Rattle.writer_reopen.specs.Progress.{act_of}
-use Rattle.writer_reopen.proofs.Cut.{act_before_stop, act_at_stop}
 use Rattle.writer_reopen.proofs.Causes.{skipped, stopped, published}
 use Rattle.writer_reopen.proofs.Polls.{stage_nearer}
 use Rattle.segment_run.specs.SegmentRun.{SegmentRun, header_shown, number_shown, number_at}
@@ -55,10 +54,11 @@ use Rattle.segment_views.proofs.Shown.{touches-snoc, ran_first, ran_more, sound_
 use Rattle.segment_views.proofs.Told.{daemon_stores}
 use Rattle.segment_rule.specs.Ruled.{TellsLoad, MayLoadWord}
 use Rattle.segment_rule.specs.Opens.{IsDaemonPart, OpenAt}
-use Rattle.segment_rule.specs.Polls.{entry_in, TellsPoll, MayPoll, order_for, history_after, next_generation, was_skipped, OpenAfter, IsOpenAfter, SupportAfter, Polls}
+use Rattle.segment_rule.specs.Polls.{entry_in, TellsPoll, MayPoll, order_for, MayBegin, history_after, OpenAfter, SupportAfter, Polls}
 use Rattle.segment_rule.proofs.Stepping.{by_test, loads_told, touch_at, more_touches}
 use Rattle.segment_rule.proofs.Opening.{stored_touch}
 use Rattle.segment_rule.proofs.PageSeen.{page_found, page_bound, none_bound}
+use Rattle.segment_rule.proofs.Causes.{next_store, looking_no_store, has_cause}
 use Rattle.segment_rule.proofs.Stores.{StoreOf, store_of, no_load, AfterStores, none_stored, MayPublish, may_store, after_store, even_next}
 
 -- ---- the machine's stage and the view
@@ -86,17 +86,6 @@ pub record IsPolling (clock : List ClockRow) (order : Order) (v : SeatView) (p :
   pub points : PointsFollow (point_of v.daemon_part.segment) w.steps (point_of w.daemon_part.segment)
   pub ties : Ties v order p.stage w
 
--- what a poll begins with: the daemon has the table's support, and the number is that of word 1, which isn't 0
-pub record MayBegin (clock : List ClockRow) (order : Order) (v : SeatView) : Type 0 where
-  pub fits : OrderFits order
-  pub rows : AreRows clock
-  pub all : length clock ≡ v.setup.rows
-  pub support : order.daemon.support ≡ is_some v.setup.page
-  pub own : IsDaemonPart v
-  pub layout : order.layout ≡ v.setup.layout
-  pub number : order.generation ≡ number_shown v.daemon_part.segment
-  pub header : header_shown v.daemon_part.segment ≢ 0
-
 -- ---- one load
 
 same_load : (a b : ℕ) → Load a ≡ Load b → b ≡ a
@@ -106,21 +95,6 @@ looking_wants : (act : Act) (end : Option PageSeen) (word : ℕ) → IsUnseen en
 looking_wants act None word unseen e = (e, refl)
 looking_wants act (Some (Busy first last)) word unseen e = absurd (cc e)
 looking_wants act (Some (Marker marker sequence)) word unseen e = absurd unseen
-
-stop_cases : (stop : Option ℕ) (made : ℕ) → (stop ≡ Some made) ⊎ (stop ≢ Some made)
-stop_cases None made = inr (λ e. cc e)
-stop_cases (Some stop) made = elim (cases_eq stop made) [ inl same ↦ inl (ap Some same) | inr other ↦ inr (λ e. other (cc e)) ]
-
-update_is : (order : Order) (taken : Taken) (update : Publishing) → IsUpdate order taken update → publishing_act update ≡ slice_index_or (stores taken.publication.rec order.layout order.generation) update.made End
-update_is order taken update is = λ j. slice_index_or (stores (is.same_record j) (is.same_layout j) (is.same_generation j)) update.made End
-
--- a step that is wanted among the stores is the next of them
-pub next_store : (order : Order) (taken : Taken) (update : Publishing) (act : Act) → IsUpdate order taken update → act_of (storing_of order taken update.made) ≡ act → act ≢ End
-    → slice_index_or (stores taken.publication.rec order.layout order.generation) update.made End ≡ act
-next_store order taken update act is wanted some_act = elim (stop_cases order.stop update.made) [
-  | inl at ↦ absurd (some_act (sym wanted ∙ act_at_stop order taken update at))
-  | inr other ↦ sym (update_is order taken update is) ∙ (act_before_stop order taken update is other ∙ wanted)
-]
 
 moment_of : (clock : List ClockRow) (row : ℕ) → AreRows clock → 1 ≤ row → row ≤ length clock → (reading_at clock row).mono ≤ LAST_MOMENT
 moment_of clock row rows low high = rows.moments (row - 1) (row_with clock row) (slice_get-get_or clock (row - 1) (record { mono = 0; real = 0; truth = None }) (omega arith))
@@ -222,14 +196,14 @@ replays_more clock order before after touch p act is r = rw is (
 
 -- ---- the first load
 
-pub polling_first : (clock : List ClockRow) (order : Order) (v x : SeatView) (n : ℕ) → MayBegin clock order v → v.is_daemon ≡ true → TellsLoad true 23 v n n x → IsPolling clock order v (polling_given clock (new_polling order) n) x
-polling_first clock order v x n may daemon t =
+pub polling_first : (clock : List ClockRow) (order : Order) (v x : SeatView) (n : ℕ) → MayBegin clock order v → TellsLoad true 23 v n n x → IsPolling clock order v (polling_given clock (new_polling order) n) x
+polling_first clock order v x n may t =
     let l = loads_told true 23 n v x t in
     let ties = load_ties clock order stages.Asking 23 n true v v x may.fits may.rows may.all may.support tt tt refl refl t in
     let steps : touches_of x.steps ≡ touch_at 23 n ∷ [] = ap touches_of l.steps in
     let r : Replays clock order (touches_of x.steps) (polling_given clock (new_polling order) n) = replays_more clock order [] (touches_of x.steps) (touch_at 23 n) (new_polling order) refl steps (tt, refl) in
     record {
-      daemon = l.is_daemon ∙ daemon;
+      daemon = l.is_daemon ∙ may.daemon;
       setup = l.setup;
       calls = l.calls;
       same_order = refl;
@@ -238,7 +212,7 @@ polling_first clock order v x n may daemon t =
       wanted = r.0;
       now = r.1;
       sound = ran_first v x 23 n l;
-      points = follows_first v x 23 n daemon l;
+      points = follows_first v x 23 n may.daemon l;
       ties = ties.1;
     }
 
@@ -277,15 +251,6 @@ poll_stores e word value v w =
     (λ one t. subst (λ (i : ℕ). AddsStore i value v w) (sym (eqb-true word 1 one))
     (by_test (generation_in value % 2 == 1) _ _ (AddsStore 1 value v w) (λ o h. daemon_stores (update_begun e) 1 value v w h) (λ o h. daemon_stores update_ended 1 value v w h) t))
     (λ other t. daemon_stores (update_filled word) word value v w t)
-
-no_page_store : (at : tries.Progress) (word value : ℕ) → tries.act_of at ≡ Store word value → ⊥
-no_page_store (tries.Asks w) word value e = cc e
-no_page_store (tries.Ends outcome) word value e = cc e
-
-looking_no_store : (read : SeqlockRead) (end : Option PageSeen) (word value : ℕ) → IsUnseen end → act_of (looking_by (page.act_of read) end) ≡ Store word value → ⊥
-looking_no_store read None word value unseen e = no_page_store (tries.progress page_lock read) word value e
-looking_no_store read (Some (Busy first last)) word value unseen e = cc e
-looking_no_store read (Some (Marker marker sequence)) word value unseen e = absurd unseen
 
 -- a store that comes: what is published, and which store it is
 pub record ComesTo (v w : SeatView) (order : Order) (stage : Stage) (word value : ℕ) : Type 0 where
@@ -394,27 +359,6 @@ stopped_at order (stages.Looking asked read) number is = absurd is
 stopped_at order (stages.Taking asked seen) number is = absurd is
 stopped_at order (stages.Storing taken update) number is = is.0
 
--- without a stop the poll goes on
-pub open_next : (polled : Polled) (generation : ℕ) (w : SeatView) → OpenAfter None generation polled w → OpenAt (next_generation generation polled) w
-open_next (Published daemon publication) generation w open_is = open_is
-open_next (Skipped first last) generation w open_is = open_is
-open_next (Stopped stores) generation w stop = absurd (cc stop)
-
-pub open_skipped : (polled : Polled) (stop : Option ℕ) (generation : ℕ) (w : SeatView) → was_skipped polled ≡ true → OpenAfter stop generation polled w → OpenAt generation w
-open_skipped (Published daemon publication) stop generation w is open_is = absurd (cc is)
-open_skipped (Skipped first last) stop generation w is open_is = open_is
-open_skipped (Stopped stores) stop generation w is open_is = absurd (cc is)
-
-pub shut_after : (polled : Polled) → was_skipped polled ≡ false → IsOpenAfter polled false
-shut_after (Published daemon publication) is = refl
-shut_after (Skipped first last) is = absurd (cc is)
-shut_after (Stopped stores) is = refl
-
-pub open_after : (polled : Polled) → was_skipped polled ≡ true → IsOpenAfter polled true
-open_after (Published daemon publication) is = absurd (cc is)
-open_after (Skipped first last) is = refl
-open_after (Stopped stores) is = absurd (cc is)
-
 published_part : (order : Order) (stage : Stage) (daemon : Daemon) (publication : Publication) (v w : SeatView) → order.layout ≡ v.daemon_part.segment.layout → order.generation ≡ number_shown v.daemon_part.segment → IsPublished stage daemon publication → Ties v order stage w
     → (w.daemon_part.segment.history ≡ v.daemon_part.segment.history ++ publication ∷ []) × OpenAt publication.generation w × (daemon.support ≡ order.daemon.support)
 published_part order stages.Asking daemon publication v w layout number is ties = absurd is
@@ -455,7 +399,7 @@ pub polled_at_end : (clock : List ClockRow) (order : Order) (v w : SeatView) (p 
     → Polls clock order v polled w × OpenAfter order.stop order.generation polled w × SupportAfter order.daemon.support polled
 polled_at_end clock order v w p polled may u told =
     let e = ended_by polled clock order v w p may u told in
-    (record { setup = u.setup; calls = u.calls; steps = u.wanted; answer = ap polling_end u.now ∙ told; sound = u.sound; points = u.points; history = e.0 }, e.1, e.2)
+    (record { setup = u.setup; calls = u.calls; steps = u.wanted; answer = ap polling_end u.now ∙ told; sound = u.sound; points = u.points; history = e.0; cause = has_cause clock order (touches_of w.steps) p polled u.wanted u.now (subst (λ (o : Order). IsPollStage o p.stage) (sym u.same_order) u.stage) told }, e.1, e.2)
 
 -- ---- its beginning
 
@@ -466,10 +410,10 @@ number_small segment =
     let flag = flag_most segment.is_writing in
     omega (arith, most, flag)
 
-pub may_begin : (clock : List ClockRow) (v : SeatView) (daemon : Daemon) (generation number : ℕ) (heard : Heard) (stop : Option ℕ) (tries : ℕ) → IsDaemonPart v → OpenAt generation v → daemon.support ≡ is_some v.setup.page
+pub may_begin : (clock : List ClockRow) (v : SeatView) (daemon : Daemon) (generation number : ℕ) (heard : Heard) (stop : Option ℕ) (tries : ℕ) → v.is_daemon ≡ true → IsDaemonPart v → OpenAt generation v → daemon.support ≡ is_some v.setup.page
     → daemon.drift ≤ MOST_DRIFT → IfSome daemon.base BaseFits → length clock ≡ v.setup.rows → AreRows clock → 0 < tries → tries ≤ MOST_TRIES → IfSome stop (λ s. s ≤ MOST_STORES)
     → MayBegin clock (order_for v daemon number heard stop tries) v
-may_begin clock v daemon generation number heard stop tries own open_is support drift base all rows some_tries most_tries stops =
+may_begin clock v daemon generation number heard stop tries is own open_is support drift base all rows some_tries most_tries stops =
     let small = number_small v.daemon_part.segment in
     record {
       fits = record {
@@ -482,17 +426,18 @@ may_begin clock v daemon generation number heard stop tries own open_is support 
       rows = rows;
       all = all;
       support = support;
+      daemon = is;
       own = own;
       layout = refl;
       number = refl;
       header = open_is.1;
     }
 
--- the machine begins with the number that the seat keeps, which is that of word 1
-pub begun_as : (v : SeatView) (daemon : Daemon) (layout : Layout) (generation number : ℕ) (heard : Heard) (stop : Option ℕ) (tries : ℕ) → layout ≡ v.setup.layout → OpenAt generation v
-    → new_polling (record { daemon = daemon; layout = layout; generation = generation; number = number; heard = heard; stop = stop; tries = tries }) ≡ new_polling (order_for v daemon number heard stop tries)
-begun_as v daemon layout generation number heard stop tries same open_is =
-    λ j. new_polling (record { daemon = daemon; layout = same j; generation = open_is.0 j; number = number; heard = heard; stop = stop; tries = tries })
+-- the number that the seat keeps is that of word 1
+pub same_order : (v : SeatView) (daemon : Daemon) (layout : Layout) (generation number : ℕ) (heard : Heard) (stop : Option ℕ) (tries : ℕ) → layout ≡ v.setup.layout → OpenAt generation v
+    → record { daemon = daemon; layout = layout; generation = generation; number = number; heard = heard; stop = stop; tries = tries } ≡ order_for v daemon number heard stop tries
+same_order v daemon layout generation number heard stop tries same open_is =
+    λ j. record { daemon = daemon; layout = same j; generation = open_is.0 j; number = number; heard = heard; stop = stop; tries = tries }
 
 -- what a load may be, and what it finds
 pub may_wanted : (clock : List ClockRow) (order : Order) (v w : SeatView) (p : Polling) (word : ℕ) → MayBegin clock order v → IsPolling clock order v p w → polling_act p ≡ Load word → MayLoadWord word w

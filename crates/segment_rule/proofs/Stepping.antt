@@ -10,7 +10,7 @@ use Rattle.clock_gate.specs.declared.clock_row.Reading.{Reading}
 use Rattle.clock_gate.specs.declared.limits.TheConstants.{MOST_HOST_ROWS}
 use Rattle.clock_gate.specs.Acts.{Touch, Wanted, replayed}
 use Rattle.clock_gate.specs.ClockRow.{reading_at, IsClock}
-use Rattle.seqlock.specs.Tries.{Seqlock, SeqlockRead, Attempt, Wants, Outcome, Unpublished, IsCalm, IsStage, attempt, progress, read_act, failed_try, started}
+use Rattle.seqlock.specs.Tries.{Seqlock, SeqlockRead, Outcome, Unpublished, IsCalm, IsStage, progress, read_act, failed_try, started}
 use Rattle.seqlock.specs.Tries as tries
 use Rattle.seqlock.proofs.Tries as laws
 use Rattle.clock_gate.proofs.Acts.{replayed-append, wanted-append}
@@ -34,8 +34,8 @@ use Rattle.interval_now.specs.declared.answers.Answer.{Answer}
 use Rattle.interval_now.specs.declared.stage.Stage.{Stage}
 use Rattle.interval_now.specs.declared.stage.Stage.TheVariants as stages
 use Rattle.interval_now.specs.Call as calls
-use Rattle.interval_now.specs.Call.{Call, IsCall, started_call, act_of, act_at, end_of, end_at, given, stage_given, after_segment, after_clock, after_page, IsRowNumber}
-use Rattle.interval_now.proofs.CallSteps.{call_nearer, early_at}
+use Rattle.interval_now.specs.Call.{Call, IsCall, Agrees, reading_taken, started_call, act_of, act_at, end_of, end_at, given, stage_given, after_segment, after_clock, after_page, IsRowNumber}
+use Rattle.interval_now.proofs.CallSteps.{call_nearer, early_at, same_given}
 use Rattle.segment_views.specs.declared.setup.Setup.{Setup}
 use Rattle.segment_views.specs.Views.{SeatView, number_of_point}
 use Rattle.segment_views.specs.Steps.{loaded, TellsFront, TellsData, TellsClock}
@@ -44,7 +44,7 @@ use Rattle.segment_views.proofs.Lists.{begins_length}
 use Rattle.segment_views.proofs.Shown.{touches-snoc, ran_first, ran_more}
 use Rattle.segment_views.proofs.Told.{front_loads, page_loads, clock_loads, plain_loads}
 use Rattle.segment_rule.specs.Ruled.{Either, TellsLoad, MayLoadWord}
-use Rattle.segment_rule.specs.Calls.{reading_taken, Agrees, Tied, Replays, Going, Holds, Nows}
+use Rattle.segment_rule.specs.Calls.{Tied, Replays, Going, Holds, Nows}
 
 -- ---- what a load tells, by its word
 
@@ -96,36 +96,14 @@ no_test word value out =
       flag = λ e. absurd (none 9 (omega arith) (omega arith) e);
     }
 
--- ---- which word a read wants
+-- ---- the first word of a try
 
 same_load : (a b : ℕ) → Load a ≡ Load b → a ≡ b
 same_load a b e = cc
 
-same_wants : (a b : ℕ) → Wants a ≡ Wants b → a ≡ b
-same_wants a b e = cc
-
 module _ (lock : Seqlock) where
-  abbrev pub IsReadWord : ℕ → Type 0
-  IsReadWord word = (word ≡ lock.number_word) ⊎ ((k : ℕ) × (k < lock.size) × (word ≡ lock.first_word + k))
-
-  wants_word : (values : List ℕ) (word : ℕ) → attempt lock values ≡ Wants word → IsReadWord word
-  wants_word [] word e = inl (sym (same_wants lock.number_word word e))
-  wants_word (first ∷ values) word e =
-      let few = laws.wants_few lock first word values e in
-      let calm = laws.attempt-calm lock first values few.0 in
-      elim (cases_lt (length values) lock.size) [
-        | inl below ↦ inr (length values, below, same_wants word (lock.first_word + length values) (sym e ∙ (calm ∙ laws.data_loads-few lock first values below)))
-        | inr full ↦ inl (same_wants word lock.number_word (sym e ∙ (calm ∙ laws.data_loads-full lock first values (let most = few.1 in omega (arith, most, full)))))
-      ]
-
   opened : (read : SeqlockRead) (word : ℕ) → IsStage lock read → read_act lock read ≡ Load word → laws.IsOpen lock read
   opened read word is act = laws.open_act lock read is (λ ends. cc (sym act ∙ ends))
-
-  pub read_word : (read : SeqlockRead) (word : ℕ) → IsStage lock read → read_act lock read ≡ Load word → IsReadWord word
-  read_word read word is act =
-      let open_ = opened read word is act in
-      let same : word ≡ open_.word = same_load word open_.word (sym act ∙ ap tries.act_of (laws.open_asks lock read open_)) in
-      wants_word read.values word (open_.wants ∙ ap Wants (sym same))
 
   pub first_word : (read : SeqlockRead) (word : ℕ) → IsStage lock read → read_act lock read ≡ Load word → read.values ≡ [] → word ≡ lock.number_word
   first_word read word is act none =
@@ -146,7 +124,7 @@ data_known (stages.Segment read) word v is tied act lo hi = elim (some_value rea
   | inr more ↦ tied more
 ]
 data_known (stages.Clock generation rec) word v is tied act lo hi = absurd (let e = same_load 23 word act in omega (arith, e, hi))
-data_known (stages.Page generation rec reading read) word v is tied act lo hi = elim (read_word page_lock read word is.0 act) [
+data_known (stages.Page generation rec reading read) word v is tied act lo hi = elim (laws.read_word page_lock read word is.0 act) [
   | inl e ↦ absurd (omega (arith, e, hi))
   | inr e ↦ absurd (let x = e.2 in omega (arith, x, hi))
 ]
@@ -154,7 +132,7 @@ data_known (stages.Done answer) word v is tied act lo hi = absurd (cc act)
 
 -- word 11 is wanted only where there is a page
 pub page_known : (stage : Stage) (word : ℕ) (v : SeatView) → calls.IsStage stage → Tied stage v → act_at stage ≡ Load word → MayLoadWord word v
-page_known (stages.Segment read) word v is tied act eleven = elim (read_word segment_lock read word is.0 act) [
+page_known (stages.Segment read) word v is tied act eleven = elim (laws.read_word segment_lock read word is.0 act) [
   | inl e ↦ absurd (omega (arith, e, eleven))
   | inr e ↦ absurd (let x = e.2 in let y = e.1 in omega (arith, x, y, eleven))
 ]
@@ -261,22 +239,6 @@ tied_next clock most support (stages.Page generation rec reading read) word n fi
     tied_page generation rec reading (page.given read n) _ w (ap (λ (c : Setup). is_some c.page) l.setup ∙ tied)
 tied_next clock most support (stages.Done answer) word n first v w is tied has act t = absurd (cc act)
 
--- ---- other clocks
-
--- a call that goes on is the same by every clock that agrees on the reading that it has taken
-pub same_given : (clock other : List ClockRow) (most : ℕ) (support : Bool) (stage : Stage) (n : ℕ) → end_at (stage_given clock most support stage n) ≡ None → Agrees other (reading_taken (stage_given clock most support stage n))
-    → (stage_given other most support stage n ≡ stage_given clock most support stage n) × Agrees other (reading_taken stage)
-same_given clock other most support (stages.Segment read) n on agrees = (refl, tt)
-same_given clock other most true (stages.Clock generation rec) n on agrees = (ap (λ (r : Reading). stages.Page generation rec r (started most)) agrees, tt)
-same_given clock other most false (stages.Clock generation rec) n on agrees = absurd (cc on)
-same_given clock other most support (stages.Page generation rec reading read) n on agrees = (refl, page_agrees (page.end_of (page.given read n)) on agrees)
-  where
-    page_agrees : (end : Option PageSeen) → end_at (after_page generation rec reading (page.given read n) end) ≡ None → Agrees other (reading_taken (after_page generation rec reading (page.given read n) end)) → Agrees other (Some reading)
-    page_agrees None on agrees = agrees
-    page_agrees (Some (page_seen.Marker marker sequence)) on agrees = absurd (cc on)
-    page_agrees (Some (page_seen.Busy first last)) on agrees = absurd (cc on)
-same_given clock other most support (stages.Done answer) n on agrees = absurd (cc on)
-
 -- ---- replays
 
 abbrev pub touch_at : ℕ → ℕ → Touch
@@ -335,8 +297,8 @@ going_more clock most call v w word n moments rows g act t on =
       support = g.support ∙ sym page_same;
       ran = ran_more v w word n l g.ran;
       replays = λ other agrees.
-          let s = same_given clock other call.tries call.support call.stage n on agrees in
-          subst (λ (c : Call). Replays other most c w) (ap (λ (x : Stage). record { tries = call.tries; support = call.support; stage = x }) s.0)
+          let s = same_given clock other call n on agrees in
+          subst (λ (c : Call). Replays other most c w) s.0
           (replays_more other most call v w word n l act (g.replays other s.1));
     }
 
@@ -363,8 +325,8 @@ going_first clock most v w n moments rows is t on =
       support = sym (ap (λ (c : Setup). is_some c.page) l.setup);
       ran = ran_first v w 1 n l;
       replays = λ other agrees.
-          let s = same_given clock other most (is_some v.setup.page) (stages.Segment (started most)) n on agrees in
-          subst (λ (c : Call). Replays other most c w) (ap (λ (x : Stage). record { tries = most; support = is_some v.setup.page; stage = x }) s.0)
+          let s = same_given clock other (started_call most (is_some v.setup.page)) n on agrees in
+          subst (λ (c : Call). Replays other most c w) s.0
           (replays_first other most v w n is.some l);
     }
 

@@ -1,30 +1,18 @@
 -- A client's call, in hand and at its end.
-use Rattle.std.specs.Prelude.{◌≡◌, ◌≢◌, ℕ, ◌<◌, ◌≤◌, Bool, true, false, List, [], length, Option, Some, None, IfSome, is_some}
+use Rattle.std.specs.Prelude.{◌≡◌, ◌≢◌, ℕ, ◌<◌, ◌≤◌, Bool, true, false, List, [], length, Option, is_some}
 use Rattle.clock_gate.specs.declared.act.Act.TheVariants.{End}
 use Rattle.clock_gate.specs.declared.clock_row.ClockRow.{ClockRow}
 use Rattle.clock_gate.specs.declared.clock_row.Reading.{Reading}
 use Rattle.clock_gate.specs.declared.limits.TheConstants.{MOST_HOST_ROWS}
 use Rattle.clock_gate.specs.Acts.{Wanted, replayed}
-use Rattle.clock_gate.specs.ClockRow.{reading_at}
 use Rattle.interval_now.specs.declared.answers.Answer.{Answer}
 use Rattle.interval_now.specs.declared.stage.Stage.{Stage}
 use Rattle.interval_now.specs.declared.stage.Stage.TheVariants.{Segment, Clock, Page, Done}
-use Rattle.interval_now.specs.Call.{Call, IsCall, started_call, act_of, given}
+use Rattle.interval_now.specs.Call.{Call, IsCall, Agrees, reading_taken, started_call, act_of, given}
 use Rattle.interval_now.specs.CallRun.{CallCameTo}
 use Rattle.atomic_table.specs.Seated.{TableId}
 use Rattle.segment_views.specs.Views.{SeatView}
 use Rattle.segment_views.specs.Shown.{touches_of, IsSoundCall}
-
--- the reading that a call has taken
-abbrev pub reading_taken : Stage → Option Reading
-reading_taken (Segment read) = None
-reading_taken (Clock generation rec) = None
-reading_taken (Page generation rec reading read) = Some reading
-reading_taken (Done answer) = None
-
--- the row that was read is the same still
-abbrev pub Agrees : List ClockRow → Option Reading → Type 0
-Agrees clock taken = IfSome taken (λ r. reading_at clock r.row ≡ r)
 
 -- what a stage knows of the view: a segment try in hand began with a record that is known, and a page try is of a page
 abbrev pub Tied : Stage → SeatView → Type 0

@@ -1,26 +1,32 @@
 -- The daemon's poll: its stores, and what a poll leaves.
-use Rattle.std.specs.Prelude.{◌≡◌, ℕ, ◌+◌, ◌*◌, ◌%◌, ◌<◌, ◌≤◌, ◌==◌, Bool, true, false, List, [], ◌∷◌, ◌++◌, slice_index, Option, Some, unwrap_or}
+use Rattle.std.specs.Prelude.{◌≡◌, ◌≢◌, ◌↔◌, ℕ, ◌+◌, ◌*◌, ◌%◌, ◌<◌, ◌≤◌, ◌==◌, Bool, true, false, List, [], ◌∷◌, ◌++◌, length, slice_index, Option, Some, None, is_some, unwrap_or}
 use Rattle.clock_gate.specs.declared.clock_row.ClockRow.{ClockRow}
-use Rattle.clock_gate.specs.Acts.{Wanted, replayed}
+use Rattle.clock_gate.specs.declared.limits.TheConstants.{MOST_STORES}
+use Rattle.clock_gate.specs.Acts.{Touch, Wanted, replayed}
 use Rattle.generation_word.specs.Header.{word1_of, generation_in}
 use Rattle.segment_layout.specs.declared.publication.Publication.{Publication}
 use Rattle.segment_layout.specs.History.{History}
 use Rattle.segment_layout.specs.Record.{KeepsBounds}
-use Rattle.segment_layout.specs.Words.{record_words}
+use Rattle.segment_layout.specs.Words.{record_words, flag_of}
+use Rattle.seqlock.specs.Tries.{end_of, read_of}
+use Rattle.vmclock_page.specs.declared.page_seen.PageSeen.{PageSeen}
+use Rattle.vmclock_page.specs.declared.page_seen.PageSeen.TheVariants.{Marker, Busy}
+use Rattle.vmclock_page.specs.PageRead.{page_lock, page_seen}
 use Rattle.vmclock_page.specs.Host.{count_of}
 use Rattle.vmclock_page.specs.Counting.{page_number_of}
 use Rattle.status_machine.specs.declared.daemon.Daemon.{Daemon}
 use Rattle.status_machine.specs.declared.heard.Heard.{Heard}
-use Rattle.segment_run.specs.SegmentRun.{number_at, number_shown, no_publication}
+use Rattle.segment_run.specs.SegmentRun.{number_at, number_shown, header_shown, no_publication}
 use Rattle.segment_views.specs.Views.{SeatView, point_of}
 use Rattle.segment_views.specs.Steps.{Tells, TellsDaemonPart, HasMagic, update_begun, update_filled, update_ended, calls_of}
 use Rattle.segment_views.specs.Shown.{touches_of, IsSoundCall, PointsFollow}
 use Rattle.writer_reopen.specs.declared.order.Order.{Order}
 use Rattle.writer_reopen.specs.declared.polled.Polled.{Polled}
 use Rattle.writer_reopen.specs.declared.polled.Polled.TheVariants.{Published, Skipped, Stopped}
-use Rattle.writer_reopen.specs.PollMachine.{Polling, new_polling, polling_act, polling_given, polling_end, entry_of}
+use Rattle.writer_reopen.specs.Poll.{AreRows}
+use Rattle.writer_reopen.specs.PollMachine.{OrderFits, Polling, new_polling, polling_act, polling_given, polling_end, entry_of}
 use Rattle.segment_rule.specs.Ruled.{Either}
-use Rattle.segment_rule.specs.Opens.{OpenAt}
+use Rattle.segment_rule.specs.Opens.{IsDaemonPart, OpenAt}
 
 -- ---- one store
 
@@ -50,6 +56,19 @@ abbrev pub order_for : SeatView → Daemon → (number : ℕ) → Heard → (sto
 order_for v daemon number heard stop tries =
     record { daemon = daemon; layout = v.setup.layout; generation = number_shown v.daemon_part.segment; number = number; heard = heard; stop = stop; tries = tries }
 
+-- what a poll on the daemon's seat begins with: the order fits, the clock is the table's, the daemon has the table's support, and
+-- the number is that of word 1, which isn't 0
+pub record MayBegin (clock : List ClockRow) (order : Order) (v : SeatView) : Type 0 where
+  pub fits : OrderFits order
+  pub rows : AreRows clock
+  pub all : length clock ≡ v.setup.rows
+  pub support : order.daemon.support ≡ is_some v.setup.page
+  pub daemon : v.is_daemon ≡ true
+  pub own : IsDaemonPart v
+  pub layout : order.layout ≡ v.setup.layout
+  pub number : order.generation ≡ number_shown v.daemon_part.segment
+  pub header : header_shown v.daemon_part.segment ≢ 0
+
 -- the history after a poll: a finished publication is appended, and nothing else of it changes
 abbrev pub history_after : Polled → History → History
 history_after (Published daemon publication) history = history ++ publication ∷ []
@@ -73,17 +92,53 @@ OpenAfter stop generation (Published daemon publication) w = OpenAt publication.
 OpenAfter stop generation (Skipped first last) w = OpenAt generation w
 OpenAfter stop generation (Stopped stores) w = stop ≡ Some stores
 
--- a seat that was told to stop stays open only where the poll was skipped
-abbrev pub IsOpenAfter : Polled → Bool → Type 0
-IsOpenAfter (Published daemon publication) is_open = is_open ≡ false
-IsOpenAfter (Skipped first last) is_open = is_open ≡ true
-IsOpenAfter (Stopped stores) is_open = is_open ≡ false
+-- without a stop the seat stays open, and with one only where the poll was skipped
+abbrev pub stays_open : (stop : Option ℕ) → Polled → Bool
+stays_open None polled = true
+stays_open (Some stop) polled = was_skipped polled
 
 -- a daemon that is handed on has the support that it had
 abbrev pub SupportAfter : Bool → Polled → Type 0
 SupportAfter support (Published daemon publication) = daemon.support ≡ support
 SupportAfter support (Skipped first last) = Unit {0}
 SupportAfter support (Stopped stores) = Unit {0}
+
+-- ---- why it answers as it does
+
+abbrev pub values_of : List Touch → List ℕ
+values_of [] = []
+values_of (touch ∷ touches) = touch.value ∷ values_of touches
+
+-- how many of these steps are stores
+abbrev pub stores_in : List Touch → ℕ
+stores_in [] = 0
+stores_in (touch ∷ touches) = flag_of touch.stored + stores_in touches
+
+-- what the tries of the page come to, which follow on a poll's first load
+abbrev pub page_by : (tries : ℕ) → List Touch → Option PageSeen
+page_by tries [] = None
+page_by tries (first ∷ touches) = page_seen (end_of (read_of page_lock tries 0 0 (values_of touches)))
+
+-- there is a page, and each of its tries failed, the last by these counts
+abbrev pub IsPageBusy : Order → List Touch → (first last : ℕ) → Type 0
+IsPageBusy order touches first last = (order.daemon.support ≡ true) × (page_by order.tries touches ≡ Some (Busy first last))
+
+-- the marker was seen, where there is a page
+abbrev pub IsPageSeen : Order → List Touch → Type 0
+IsPageSeen order touches = order.daemon.support ≡ true → (marker sequence : ℕ) × (page_by order.tries touches ≡ Some (Marker marker sequence))
+
+-- how many stores an answer tells
+abbrev pub stores_told : Polled → ℕ
+stores_told (Published daemon publication) = MOST_STORES
+stores_told (Skipped first last) = 0
+stores_told (Stopped stores) = stores
+
+-- a poll is skipped exactly where each try of the page failed, and stopped exactly where none stood in its way and the stop is
+-- below ten; else it publishes. It made so many stores as it tells: none, so many as the stop says, or all ten
+pub record HasCause (order : Order) (touches : List Touch) (polled : Polled) : Type 0 where
+  pub skipped : (first last : ℕ) → (polled ≡ Skipped first last) ↔ IsPageBusy order touches first last
+  pub stopped : (stores : ℕ) → (polled ≡ Stopped stores) ↔ (order.stop ≡ Some stores) × (stores < MOST_STORES) × IsPageSeen order touches
+  pub stores : stores_in touches ≡ stores_told polled
 
 -- a poll of this order: it adds a call, whose steps are those of the machine for the values that it loaded and stored, and its
 -- answer is the machine's
@@ -95,3 +150,4 @@ pub record Polls (clock : List ClockRow) (order : Order) (v : SeatView) (polled 
   pub sound : IsSoundCall w
   pub points : PointsFollow (point_of v.daemon_part.segment) w.steps (point_of w.daemon_part.segment)
   pub history : w.daemon_part.segment.history ≡ history_after polled v.daemon_part.segment.history
+  pub cause : HasCause order (touches_of w.steps) polled

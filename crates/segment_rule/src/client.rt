@@ -4,7 +4,8 @@ ghost use Rattle.clock_gate.specs.declared.limits.TheConstants.{MOST_HOST_ROWS, 
 ghost use Rattle.clock_gate.specs.ClockRow.{IsClock};
 ghost use Rattle.segment_views.specs.Steps.{calls_of};
 ghost use Rattle.segment_rule.specs.Ruled.{TableView, MayLoadWord, TellsLoad};
-ghost use Rattle.segment_rule.specs.Calls.{ClientState, Agrees, Nows};
+ghost use Rattle.interval_now.specs.Call.{Agrees};
+ghost use Rattle.segment_rule.specs.Calls.{ClientState, Nows};
 
 use crate::plays::{Begin, Load};
 use crate::table::{HostTable, Place};

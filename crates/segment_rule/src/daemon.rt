@@ -4,10 +4,10 @@ ghost use Rattle.clock_gate.specs.declared.limits.TheConstants.{MOST_DRIFT, MOST
 ghost use Rattle.status_machine.specs.Poll.{BaseFits};
 ghost use Rattle.writer_reopen.specs.Opening.{opening_act, opening_end};
 ghost use Rattle.writer_reopen.specs.Poll.{AreRows};
-ghost use Rattle.writer_reopen.specs.PollMachine.{polling_act, polling_end, PolledFits};
+ghost use Rattle.writer_reopen.specs.PollMachine.{new_polling, polling_act, polling_end, PolledFits};
 ghost use Rattle.segment_rule.specs.Ruled.{MayLoadWord, TellsLoad};
 ghost use Rattle.segment_rule.specs.Opens.{DaemonState, MayOpen, TellsOpen, IsDaemonPart, OpenAt, generation_after, Reopens};
-ghost use Rattle.segment_rule.specs.Polls.{MayPoll, TellsPoll, order_for, Polls, next_generation, was_skipped, OpenAfter, SupportAfter, IsOpenAfter};
+ghost use Rattle.segment_rule.specs.Polls.{MayPoll, TellsPoll, order_for, MayBegin, Polls, next_generation, was_skipped, stays_open, OpenAfter, SupportAfter};
 
 use crate::plays::{Announced, Begin, Load, OpenStore, PollStore};
 use crate::table::{HostTable, Place};
@@ -88,6 +88,16 @@ fn was_skipped(polled: &Polled) -> bool
     match polled {
         Polled::Skipped { .. } => true,
         Polled::Published { .. } | Polled::Stopped { .. } => false,
+    }
+}
+
+// Whether the seat stays open after a poll with this stop.
+fn stays_open(stop: Option<u8>, polled: &Polled) -> bool
+    ensures { result ≡ stays_open stop polled.now }
+{
+    match stop {
+        None => true,
+        Some(_) => was_skipped(polled),
     }
 }
 
@@ -259,11 +269,7 @@ impl DaemonSeat {
         ensures fits { PolledFits result }
         ensures support { SupportAfter daemon.support result }
     {
-        let generation = self.generation;
-        self.is_open = false;
-        let polled = self.run_poll(table, daemon, generation, number, heard, clock, tries, None);
-        self.open_at(next_generation(&polled, generation));
-        polled
+        self.poll_until(table, daemon, number, heard, clock, tries, None)
     }
 
     /// As `poll`, but the daemon stops after so many stores, from 0 to 10; a poll that is skipped doesn't stop.
@@ -291,35 +297,19 @@ impl DaemonSeat {
         requires most_tries { tries ≤ MOST_TRIES }
         requires stores { stores ≤ MOST_STORES }
         ensures table { self.new.table ≡ self.old.table }
-        ensures open { IsOpenAfter result self.new.is_open }
+        ensures open { self.new.is_open ≡ was_skipped result }
         ensures polls { Polls clock.now (order_for self.old.view daemon number heard (Some stores) tries) self.old.view result self.new.view }
         ensures fits { PolledFits result }
         ensures support { SupportAfter daemon.support result }
     {
-        let generation = self.generation;
-        self.is_open = false;
-        let polled = self.run_poll(
-            table,
-            daemon,
-            generation,
-            number,
-            heard,
-            clock,
-            tries,
-            Some(stores),
-        );
-        if was_skipped(&polled) {
-            self.open_at(generation);
-        }
-        polled
+        self.poll_until(table, daemon, number, heard, clock, tries, Some(stores))
     }
 
-    // The steps of the machine.
-    fn run_poll(
+    // A poll, with a stop or without.
+    fn poll_until(
         &mut self,
         table: &HostTable,
         daemon: Daemon,
-        generation: u32,
         number: u32,
         heard: Heard,
         clock: &[ClockRow],
@@ -327,8 +317,7 @@ impl DaemonSeat {
         stop: Option<u8>,
     ) -> Polled
         requires table { self.old.table ≡ table.now.id }
-        requires shut { self.old.is_open ≡ false }
-        requires open { OpenAt generation self.old.view }
+        requires open { self.old.is_open ≡ true }
         requires support { daemon.support ≡ is_some self.old.view.setup.page }
         requires drift { daemon.drift ≤ MOST_DRIFT }
         requires base { IfSome daemon.base BaseFits }
@@ -338,13 +327,13 @@ impl DaemonSeat {
         requires most_tries { tries ≤ MOST_TRIES }
         requires stops { IfSome stop (λ s. s ≤ MOST_STORES) }
         ensures table { self.new.table ≡ self.old.table }
-        ensures shut { self.new.is_open ≡ false }
+        ensures open { self.new.is_open ≡ stays_open stop result }
         ensures polls { Polls clock.now (order_for self.old.view daemon number heard stop tries) self.old.view result self.new.view }
-        ensures open { OpenAfter stop generation result self.new.view }
         ensures fits { PolledFits result }
         ensures support { SupportAfter daemon.support result }
     {
-        let mut machine = PollMachine::begin(
+        let generation = self.generation;
+        let machine = PollMachine::begin(
             daemon,
             self.layout,
             generation,
@@ -353,6 +342,28 @@ impl DaemonSeat {
             stop,
             tries,
         );
+        self.is_open = false;
+        let polled = self.run_poll(table, machine, clock);
+        if stays_open(stop, &polled) {
+            self.open_at(next_generation(&polled, generation));
+        }
+        polled
+    }
+
+    // The steps of the machine, which has made none yet.
+    fn run_poll(&mut self, table: &HostTable, machine: PollMachine, clock: &[ClockRow]) -> Polled
+        requires table { self.old.table ≡ table.now.id }
+        requires shut { self.old.is_open ≡ false }
+        requires first { machine ≡ new_polling machine.order }
+        requires may { MayBegin clock.now machine.order self.old.view }
+        ensures table { self.new.table ≡ self.old.table }
+        ensures shut { self.new.is_open ≡ false }
+        ensures polls { Polls clock.now machine.order self.old.view result self.new.view }
+        ensures open { OpenAfter machine.order.stop machine.order.generation result self.new.view }
+        ensures fits { PolledFits result }
+        ensures support { SupportAfter machine.order.daemon.support result }
+    {
+        let mut machine = machine;
         let value = self.first(table, 23);
         machine.give(value, clock);
         'polling: loop {

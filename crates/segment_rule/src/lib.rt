@@ -17,3 +17,6 @@ pub use daemon::DaemonSeat;
 pub use host::HostSeat;
 pub use plays::{Announced, AnnouncedPage, WordsRule};
 pub use table::HostTable;
+
+#[cfg(test)]
+mod tests;

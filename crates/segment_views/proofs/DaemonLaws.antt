@@ -17,21 +17,21 @@ use Rattle.segment_layout.specs.declared.words.TheConstants.{MAGIC}
 use Rattle.segment_layout.specs.Record.{RecordFields}
 use Rattle.segment_layout.specs.Words.{record_words, AreGoodWords, IsGoodWord, flag_of}
 use Rattle.segment_layout.specs.History.{Begun, last_store}
+use Rattle.segment_layout.proofs.Back.{record_words_good}
 use Rattle.vmclock_page.specs.Host.{count_of}
 use Rattle.vmclock_page.specs.Counting.{page_number_of}
-use Rattle.segment_run.specs.SegmentRun.{SegmentRun, headed, opened_update, moved_once, one_store_more, number_shown, number_at, published_at}
-use Rattle.segment_run.specs.ShowsSegment.{IsSegmentLater}
-use Rattle.segment_run.proofs.SegmentEnded.{headed_is, headed_later, in_update_is, in_update_later, after_update_is, after_update_later, after_update_header}
+use Rattle.segment_run.specs.SegmentRun.{SegmentRun, headed, moved_once, one_store_more, header_shown, number_shown, number_at, published_at}
+use Rattle.segment_run.specs.ShowsSegment.{IsSegment, IsSegmentLater}
+use Rattle.segment_run.proofs.SegmentEnded.{headed_is, headed_later, in_update_is, in_update_later, after_update, after_update_is, after_update_later, after_update_header}
 use Rattle.segment_run.proofs.SegmentStore.{StepShows, header_stored, stores_none, stores_made, word_step}
 use Rattle.segment_run.proofs.SegmentHeader.{header_tells, own_header, magic_of_header}
 use Rattle.segment_run.proofs.SegmentLater.{later_same}
 use Rattle.segment_views.specs.declared.setup.Setup.{Setup}
 use Rattle.segment_views.specs.Views.{DaemonPart, HostPart, SeatView, no_update, point_of, point_after, segment_try_of}
 use Rattle.segment_views.specs.Rule.{SharedState, HandFits, ShowsDaemonPart, EntryFits, EntriesFit, MeetsRule}
-use Rattle.segment_views.specs.Steps.{KeepsRule, daemon_state, daemon_view, TellsDaemonPart, HasMagic, MayMagic, with_magic, MayHead, with_head, MayOdd, begun_segment, update_begun, MayFill, filled_segment, update_filled, MayEven, update_ended, MayMoveOdd, move_begun, MayMoveEven, move_ended, stored}
+use Rattle.segment_views.specs.Steps.{KeepsRule, daemon_state, daemon_view, TellsDaemonPart, HasMagic, MayMagic, with_magic, MayHead, with_head, MayOdd, update_begun, MayFill, filled_segment, update_filled, MayEven, update_ended, MayMoveOdd, move_begun, MayMoveEven, move_ended, stored}
 use Rattle.segment_views.proofs.Lists.{begins_self, entries-snoc, entries_at, segment_try-snoc, page_try-snoc}
 use Rattle.segment_views.proofs.Frames.{Grows, seats_after, seen_grows, segment_try_grows, word_else, word_here, world_else}
-use Rattle.segment_views.proofs.Good.{good_words}
 
 -- what all stores of the daemon have in common: what it owns becomes this, which the words show
 own_step : (c : Setup) (a : SharedState) (words : List ℕ) (views : List SeatView) (id : ℕ) (v : SeatView) (i n found : ℕ) (daemon_part : SeatView → DaemonPart)
@@ -137,6 +137,49 @@ even_point segment value writes is =
     let next : 2 * (segment.position + 1) + 0 ≡ point_of segment + 1 = omega (arith, on) in
     next ∙ point_raised (point_of segment) (number_at segment (segment.position + 1)) value (ap generation_in is ∙ own_told segment.layout (number_at segment (segment.position + 1))) (λ same. absurd (omega (arith, even, same, on)))
 
+-- ---- a store in word 1
+
+-- a number that is stored for this view, with the segment's own layout
+own_number : (c : Setup) (s : DaemonPart) (words : List ℕ) (v : SeatView) (n number : ℕ) → ShowsDaemonPart c s words → v.setup ≡ c → n ≡ word1_of v.setup.layout number → n ≡ word1_of s.segment.layout number
+own_number c s words v n number shows fix value = value ∙ ap (λ (l : Layout). word1_of l number) (ap (λ (x : Setup). x.layout) fix ∙ sym shows.layout)
+
+-- the word of the next even number is the header of the segment that is published so
+even_header : (segment : SegmentRun) (e : Publication) (begun : List Begun) (n : ℕ) → segment.is_headed ≡ true → n ≡ word1_of segment.layout (number_at segment (segment.position + 1)) → n ≡ header_shown (after_update segment e begun)
+even_header segment e begun n headed_ value = value ∙ sym (after_update_header segment e begun headed_)
+
+-- what a store of this header makes: the daemon's new part is shown by the words, and the data words keep what they show
+pub record StoresHeader (c : Setup) (host_part : HostPart) (words : List ℕ) (n : ℕ) (old new : DaemonPart) : Type 0 where
+  pub shows : ShowsDaemonPart c old words
+  pub magic : slice_index words 0 ≡ MAGIC
+  pub is : IsSegment new.segment
+  pub later : IsSegmentLater old.segment new.segment
+  pub header : n ≡ header_shown new.segment
+  pub data_words : (word : ℕ) → 2 ≤ word → word < 10 → last_store old.segment.image old.segment.begun word ≡ last_store new.segment.image new.segment.begun word
+  pub hand : HandFits new.segment new.hand
+  pub sane : new.segment.base < new.segment.position → AreGoodWords words
+  pub published : EntriesFit c host_part new.segment.history
+  pub in_hand : 0 < new.hand.stores → EntryFits c host_part new.hand.publication
+  pub point : point_of new.segment ≡ point_after (point_of old.segment) 1 n
+
+header_step : (c : Setup) (a : SharedState) (words : List ℕ) (views : List SeatView) (id : ℕ) (v : SeatView) (n : ℕ) (daemon_part : SeatView → DaemonPart) → MeetsRule c a words views → get_elem? views id ≡ some v → v.is_daemon ≡ true
+    → StoresHeader c a.host_part words n v.daemon_part (daemon_part v)
+    → MeetsRule c (record a { daemon_part = daemon_part v }) (slice_set words 1 n) (slice_set views id (daemon_view daemon_part 1 a v (slice_index words 1) n))
+    × TellsDaemonPart daemon_part 1 v (slice_index words 1) n (daemon_view daemon_part 1 a v (slice_index words 1) n)
+header_step c a words views id v n daemon_part kept at is h =
+    let step = header_stored v.daemon_part.segment (daemon_part v).segment words n h.shows.shows h.magic h.is h.later h.header h.data_words in (
+      own_step c a words views id v 1 n (slice_index words 1) daemon_part kept at is (omega arith)
+          record {
+            shows = step.shows;
+            layout = h.later.layout ∙ h.shows.layout;
+            base = h.later.base ∙ h.shows.base;
+            stored_magic = λ m. step.magic;
+            hand = h.hand;
+            sane = λ known. good_below words 1 n (omega arith) (h.sane known);
+          }
+          h.later h.published h.in_hand,
+      record { view = refl; is = h.is; later = h.later; point = h.point; header = inl (sym h.header) },
+    )
+
 -- ---- the opening
 
 pub magic_law : KeepsRule 0 MayMagic (daemon_state with_magic) (daemon_view with_magic 0) (TellsDaemonPart with_magic 0)
@@ -165,24 +208,22 @@ magic_law c a words views id v n kept at may =
 
 pub head_law : KeepsRule 1 MayHead (daemon_state with_head) (daemon_view with_head 1) (TellsDaemonPart with_head 1)
 head_law c a words views id v n kept at may =
-    let fix = ((kept.seats id v at).daemon may.0).2 in
     let o = own c a words views id v kept at may.0 in
-    let s = o.shows in
-    let later = headed_later v.daemon_part.segment may.2 in
-    let value : n ≡ word1_of v.daemon_part.segment.layout (number_shown v.daemon_part.segment) = may.3 ∙ ap (λ (l : Layout). word1_of l (number_shown v.daemon_part.segment)) (ap (λ (x : Setup). x.layout) fix ∙ sym s.layout) in
-    let step = header_stored v.daemon_part.segment (headed v.daemon_part.segment) words n s.shows (the_magic c v.daemon_part words s may.1) (headed_is v.daemon_part.segment s.shows.is) later value (λ word low high. refl) in (
-      own_step c a words views id v 1 n (slice_index words 1) with_head kept at may.0 (omega arith)
-          record {
-            shows = step.shows;
-            layout = s.layout;
-            base = s.base;
-            stored_magic = λ m. step.magic;
-            hand = none_fits (headed v.daemon_part.segment);
-            sane = λ known. good_below words 1 n (omega arith) (s.sane known);
-          }
-          later o.published (λ on. absurd (omega arith)),
-      record { view = refl; is = step.shows.is; later = later; point = head_point v.daemon_part.segment n value; header = inl (sym value) },
-    )
+    let value = own_number c v.daemon_part words v n (number_shown v.daemon_part.segment) o.shows ((kept.seats id v at).daemon may.0).2 may.3 in
+    header_step c a words views id v n with_head kept at may.0
+    record {
+      shows = o.shows;
+      magic = the_magic c v.daemon_part words o.shows may.1;
+      is = headed_is v.daemon_part.segment o.shows.shows.is;
+      later = headed_later v.daemon_part.segment may.2;
+      header = value;
+      data_words = λ word low high. refl;
+      hand = none_fits (headed v.daemon_part.segment);
+      sane = o.shows.sane;
+      published = o.published;
+      in_hand = λ on. absurd (omega arith);
+      point = head_point v.daemon_part.segment n value;
+    }
 
 -- ---- a publication
 
@@ -191,31 +232,28 @@ odd_law e c a words views id v n kept at may =
     let fits = kept.seats id v at in
     let fix = (fits.daemon may.0).2 in
     let o = own c a words views id v kept at may.0 in
-    let s = o.shows in
-    let segment : SegmentRun = v.daemon_part.segment in
     let begun : List Begun = record { rec = e.rec; stores = 1 } ∷ v.daemon_part.segment.begun in
-    let later = in_update_later v.daemon_part.segment (record { rec = e.rec; stores = 1 } ∷ v.daemon_part.segment.begun) in
-    let value : n ≡ word1_of v.daemon_part.segment.layout (number_at v.daemon_part.segment v.daemon_part.segment.position + 1) =
-    may.2 ∙ ap (λ (l : Layout). word1_of l (number_at v.daemon_part.segment v.daemon_part.segment.position + 1)) (ap (λ (x : Setup). x.layout) fix ∙ sym s.layout) in
-    let step = header_stored v.daemon_part.segment (begun_segment e v.daemon_part.segment) words n s.shows (the_magic c v.daemon_part words s may.1)
-    (in_update_is v.daemon_part.segment (record { rec = e.rec; stores = 1 } ∷ v.daemon_part.segment.begun) s.shows.is) later value
-    (λ word low high. stores_none v.daemon_part.segment.image e.rec v.daemon_part.segment.begun word low) in (
-      own_step c a words views id v 1 n (slice_index words 1) (update_begun e) kept at may.0 (omega arith)
-          record {
-            shows = step.shows;
-            layout = s.layout;
-            base = s.base;
-            stored_magic = λ m. step.magic;
-            hand = record {
-              storing = λ on. record { writes = refl; headed = refl; few = omega arith; older = v.daemon_part.segment.begun; begun = refl; bounds = may.3 };
-              moving = λ m. absurd (cc m);
-            };
-            sane = λ known. good_below words 1 n (omega arith) (s.sane known);
-          }
-          later o.published
-          (λ on. record { rows = le_trans may.4 fits.seen.rows; page = le_trans (subst (λ (x : Setup). 2 * page_number_of (count_of x.page) e.sequence ≤ v.seen.page_point) fix may.5) fits.seen.page_point }),
-      record { view = refl; is = step.shows.is; later = later; point = odd_point_by v.daemon_part.segment.layout v.daemon_part.segment.position v.daemon_part.segment.is_writing n value; header = inl (sym value) },
-    )
+    let value = own_number c v.daemon_part words v n (number_at v.daemon_part.segment v.daemon_part.segment.position + 1) o.shows fix may.2 in
+    header_step c a words views id v n (update_begun e) kept at may.0
+    record {
+      shows = o.shows;
+      magic = the_magic c v.daemon_part words o.shows may.1;
+      is = in_update_is v.daemon_part.segment (record { rec = e.rec; stores = 1 } ∷ v.daemon_part.segment.begun) o.shows.shows.is;
+      later = in_update_later v.daemon_part.segment (record { rec = e.rec; stores = 1 } ∷ v.daemon_part.segment.begun);
+      header = value;
+      data_words = λ word low high. stores_none v.daemon_part.segment.image e.rec v.daemon_part.segment.begun word low;
+      hand = record {
+        storing = λ on. record { writes = refl; headed = refl; few = omega arith; older = v.daemon_part.segment.begun; begun = refl; bounds = may.3 };
+        moving = λ m. absurd (cc m);
+      };
+      sane = o.shows.sane;
+      published = o.published;
+      in_hand = λ on. record {
+        rows = le_trans may.4 fits.seen.rows;
+        page = le_trans (subst (λ (x : Setup). 2 * page_number_of (count_of x.page) e.sequence ≤ v.seen.page_point) fix may.5) fits.seen.page_point;
+      };
+      point = odd_point_by v.daemon_part.segment.layout v.daemon_part.segment.position v.daemon_part.segment.is_writing n value;
+    }
 
 pub fill_law : (i : ℕ) → 2 ≤ i → i < 10 → KeepsRule i (MayFill i) (daemon_state (update_filled i)) (daemon_view (update_filled i) i) (TellsDaemonPart (update_filled i) i)
 fill_law i lo hi c a words views id v n kept at may =
@@ -243,7 +281,7 @@ fill_law i lo hi c a words views id v n kept at may =
             };
             sane = λ known j lo' hi'. ⊎_elim
                 (λ (e : j ≡ i). subst (λ (x : ℕ). IsGoodWord x (slice_index (slice_set words i n) x)) (sym e)
-                (subst (λ x. IsGoodWord i x) (sym (word_here words i n (omega (arith, wide)) ∙ may.3)) (good_words 0 rec h.bounds i lo hi)))
+                (subst (λ x. IsGoodWord i x) (sym (word_here words i n (omega (arith, wide)) ∙ may.3)) (record_words_good 0 rec h.bounds i lo hi)))
                 (λ (ne : j ≢ i). subst (λ x. IsGoodWord j x) (sym (word_else words i n j ne)) (s.sane known j lo' hi'))
                 (cases_eq j i);
           }
@@ -253,93 +291,77 @@ fill_law i lo hi c a words views id v n kept at may =
 
 pub even_law : KeepsRule 1 MayEven (daemon_state update_ended) (daemon_view update_ended 1) (TellsDaemonPart update_ended 1)
 even_law c a words views id v n kept at may =
-    let fix = ((kept.seats id v at).daemon may.0).2 in
     let o = own c a words views id v kept at may.0 in
     let s = o.shows in
     let nine = may.1 in
     let h = s.hand.storing (omega arith) in
-    let segment : SegmentRun = v.daemon_part.segment in
-    let e : Publication = v.daemon_part.hand.publication in
     let begun : v.daemon_part.segment.begun ≡ record { rec = v.daemon_part.hand.publication.rec; stores = 9 } ∷ h.older = h.begun ∙ ap (λ (k : ℕ). record { rec = v.daemon_part.hand.publication.rec; stores = k } ∷ h.older) nine in
-    let more : List Begun = one_store_more v.daemon_part.segment.begun in
     let holds : (word : ℕ) → 2 ≤ word → word < 10 → last_store v.daemon_part.segment.image (one_store_more v.daemon_part.segment.begun) word ≡ slice_index (record_words 0 v.daemon_part.hand.publication.rec) word = λ word low high.
     ap (λ (b : List Begun). last_store v.daemon_part.segment.image (one_store_more b) word) begun ∙ stores_made v.daemon_part.segment.image v.daemon_part.hand.publication.rec h.older (9 + 1) word (omega arith) in
     let was : (word : ℕ) → 2 ≤ word → word < 10 → last_store v.daemon_part.segment.image v.daemon_part.segment.begun word ≡ slice_index (record_words 0 v.daemon_part.hand.publication.rec) word = λ word low high.
     ap (λ (b : List Begun). last_store v.daemon_part.segment.image b word) begun ∙ stores_made v.daemon_part.segment.image v.daemon_part.hand.publication.rec h.older 9 word (omega arith) in
-    let value : n ≡ word1_of v.daemon_part.segment.layout (number_at v.daemon_part.segment (v.daemon_part.segment.position + 1)) =
-    may.2 ∙ ap (λ (l : Layout). word1_of l (number_at v.daemon_part.segment (v.daemon_part.segment.position + 1))) (ap (λ (x : Setup). x.layout) fix ∙ sym s.layout) in
-    let later = after_update_later v.daemon_part.segment v.daemon_part.hand.publication (one_store_more v.daemon_part.segment.begun) in
-    let step = header_stored v.daemon_part.segment (update_ended v).segment words n s.shows (writes_magic c v.daemon_part words s h.writes)
-    (after_update_is v.daemon_part.segment v.daemon_part.hand.publication (one_store_more v.daemon_part.segment.begun) s.shows.is h.headed h.bounds holds) later
-    (value ∙ sym (after_update_header v.daemon_part.segment v.daemon_part.hand.publication (one_store_more v.daemon_part.segment.begun) h.headed))
-    (λ word low high. was word low high ∙ sym (holds word low high)) in (
-      own_step c a words views id v 1 n (slice_index words 1) update_ended kept at may.0 (omega arith)
-          record {
-            shows = step.shows;
-            layout = s.layout;
-            base = s.base;
-            stored_magic = λ m. step.magic;
-            hand = none_fits (update_ended v).segment;
-            sane = λ known j lo hi. subst (λ x. IsGoodWord j x) (sym (word_else words 1 n j (λ e. absurd (omega arith)) ∙ s.shows.data_words j lo hi ∙ was j lo hi)) (good_words 0 v.daemon_part.hand.publication.rec h.bounds j lo hi);
-          }
-          later (entries-snoc c a.host_part v.daemon_part.segment.history v.daemon_part.hand.publication o.published (o.in_hand (omega arith))) (λ on. absurd (omega arith)),
-      record { view = refl; is = step.shows.is; later = later; point = even_point v.daemon_part.segment n h.writes value; header = inl (sym (value ∙ sym (after_update_header v.daemon_part.segment v.daemon_part.hand.publication (one_store_more v.daemon_part.segment.begun) h.headed))) },
-    )
+    let value = own_number c v.daemon_part words v n (number_at v.daemon_part.segment (v.daemon_part.segment.position + 1)) s ((kept.seats id v at).daemon may.0).2 may.2 in
+    header_step c a words views id v n update_ended kept at may.0
+    record {
+      shows = s;
+      magic = writes_magic c v.daemon_part words s h.writes;
+      is = after_update_is v.daemon_part.segment v.daemon_part.hand.publication (one_store_more v.daemon_part.segment.begun) s.shows.is h.headed h.bounds holds;
+      later = after_update_later v.daemon_part.segment v.daemon_part.hand.publication (one_store_more v.daemon_part.segment.begun);
+      header = even_header v.daemon_part.segment v.daemon_part.hand.publication (one_store_more v.daemon_part.segment.begun) n h.headed value;
+      data_words = λ word low high. was word low high ∙ sym (holds word low high);
+      hand = none_fits (update_ended v).segment;
+      sane = λ known j lo hi. subst (λ x. IsGoodWord j x) (sym (s.shows.data_words j lo hi ∙ was j lo hi)) (record_words_good 0 v.daemon_part.hand.publication.rec h.bounds j lo hi);
+      published = entries-snoc c a.host_part v.daemon_part.segment.history v.daemon_part.hand.publication o.published (o.in_hand (omega arith));
+      in_hand = λ on. absurd (omega arith);
+      point = even_point v.daemon_part.segment n h.writes value;
+    }
 
 -- ---- the move
 
 pub move_odd_law : KeepsRule 1 MayMoveOdd (daemon_state move_begun) (daemon_view move_begun 1) (TellsDaemonPart move_begun 1)
 move_odd_law c a words views id v n kept at may =
-    let fix = ((kept.seats id v at).daemon may.0).2 in
     let o = own c a words views id v kept at may.0 in
     let s = o.shows in
-    let later = in_update_later v.daemon_part.segment v.daemon_part.segment.begun in
-    let value : n ≡ word1_of v.daemon_part.segment.layout (number_at v.daemon_part.segment v.daemon_part.segment.position + 1) =
-    may.3 ∙ ap (λ (l : Layout). word1_of l (number_at v.daemon_part.segment v.daemon_part.segment.position + 1)) (ap (λ (x : Setup). x.layout) fix ∙ sym s.layout) in
-    let step = header_stored v.daemon_part.segment (opened_update v.daemon_part.segment) words n s.shows (known_magic c v.daemon_part words s may.2) (in_update_is v.daemon_part.segment v.daemon_part.segment.begun s.shows.is) later value (λ word low high. refl) in (
-      own_step c a words views id v 1 n (slice_index words 1) move_begun kept at may.0 (omega arith)
-          record {
-            shows = step.shows;
-            layout = s.layout;
-            base = s.base;
-            stored_magic = λ m. step.magic;
-            hand = record {
-              storing = λ on. absurd (omega arith);
-              moving = λ m. record { known = may.2; writes = refl; headed = refl; holds = s.shows.is.stands may.1 may.2 };
-            };
-            sane = λ known. good_below words 1 n (omega arith) (s.sane known);
-          }
-          later o.published (λ on. absurd (omega arith)),
-      record { view = refl; is = step.shows.is; later = later; point = odd_point_by v.daemon_part.segment.layout v.daemon_part.segment.position v.daemon_part.segment.is_writing n value; header = inl (sym value) },
-    )
+    let value = own_number c v.daemon_part words v n (number_at v.daemon_part.segment v.daemon_part.segment.position + 1) s ((kept.seats id v at).daemon may.0).2 may.3 in
+    header_step c a words views id v n move_begun kept at may.0
+    record {
+      shows = s;
+      magic = known_magic c v.daemon_part words s may.2;
+      is = in_update_is v.daemon_part.segment v.daemon_part.segment.begun s.shows.is;
+      later = in_update_later v.daemon_part.segment v.daemon_part.segment.begun;
+      header = value;
+      data_words = λ word low high. refl;
+      hand = record {
+        storing = λ on. absurd (omega arith);
+        moving = λ m. record { known = may.2; writes = refl; headed = refl; holds = s.shows.is.stands may.1 may.2 };
+      };
+      sane = s.sane;
+      published = o.published;
+      in_hand = λ on. absurd (omega arith);
+      point = odd_point_by v.daemon_part.segment.layout v.daemon_part.segment.position v.daemon_part.segment.is_writing n value;
+    }
 
 pub move_even_law : KeepsRule 1 MayMoveEven (daemon_state move_ended) (daemon_view move_ended 1) (TellsDaemonPart move_ended 1)
 move_even_law c a words views id v n kept at may =
-    let fix = ((kept.seats id v at).daemon may.0).2 in
     let o = own c a words views id v kept at may.0 in
     let s = o.shows in
     let h = s.hand.moving may.1 in
     let above = h.known in
     let known = s.shows.is.known in
-    let again : Publication = published_at v.daemon_part.segment v.daemon_part.segment.position in
     let bounds = s.shows.is.records v.daemon_part.segment.position above (omega arith) in
-    let value : n ≡ word1_of v.daemon_part.segment.layout (number_at v.daemon_part.segment (v.daemon_part.segment.position + 1)) =
-    may.2 ∙ ap (λ (l : Layout). word1_of l (number_at v.daemon_part.segment (v.daemon_part.segment.position + 1))) (ap (λ (x : Setup). x.layout) fix ∙ sym s.layout) in
-    let later = after_update_later v.daemon_part.segment (published_at v.daemon_part.segment v.daemon_part.segment.position) v.daemon_part.segment.begun in
-    let step = header_stored v.daemon_part.segment (moved_once v.daemon_part.segment) words n s.shows (writes_magic c v.daemon_part words s h.writes)
-    (after_update_is v.daemon_part.segment (published_at v.daemon_part.segment v.daemon_part.segment.position) v.daemon_part.segment.begun s.shows.is h.headed bounds h.holds) later
-    (value ∙ sym (after_update_header v.daemon_part.segment (published_at v.daemon_part.segment v.daemon_part.segment.position) v.daemon_part.segment.begun h.headed))
-    (λ word low high. refl) in (
-      own_step c a words views id v 1 n (slice_index words 1) move_ended kept at may.0 (omega arith)
-          record {
-            shows = step.shows;
-            layout = s.layout;
-            base = s.base;
-            stored_magic = λ m. step.magic;
-            hand = none_fits (moved_once v.daemon_part.segment);
-            sane = λ _. good_below words 1 n (omega arith) (s.sane above);
-          }
-          later (entries-snoc c a.host_part v.daemon_part.segment.history (published_at v.daemon_part.segment v.daemon_part.segment.position) o.published (entries_at c a.host_part v.daemon_part.segment.history (v.daemon_part.segment.position - v.daemon_part.segment.base - 1) o.published (omega arith)))
-          (λ on. absurd (omega arith)),
-      record { view = refl; is = step.shows.is; later = later; point = even_point v.daemon_part.segment n h.writes value; header = inl (sym (value ∙ sym (after_update_header v.daemon_part.segment (published_at v.daemon_part.segment v.daemon_part.segment.position) v.daemon_part.segment.begun h.headed))) },
-    )
+    let value = own_number c v.daemon_part words v n (number_at v.daemon_part.segment (v.daemon_part.segment.position + 1)) s ((kept.seats id v at).daemon may.0).2 may.2 in
+    header_step c a words views id v n move_ended kept at may.0
+    record {
+      shows = s;
+      magic = writes_magic c v.daemon_part words s h.writes;
+      is = after_update_is v.daemon_part.segment (published_at v.daemon_part.segment v.daemon_part.segment.position) v.daemon_part.segment.begun s.shows.is h.headed bounds h.holds;
+      later = after_update_later v.daemon_part.segment (published_at v.daemon_part.segment v.daemon_part.segment.position) v.daemon_part.segment.begun;
+      header = even_header v.daemon_part.segment (published_at v.daemon_part.segment v.daemon_part.segment.position) v.daemon_part.segment.begun n h.headed value;
+      data_words = λ word low high. refl;
+      hand = none_fits (moved_once v.daemon_part.segment);
+      sane = λ _. s.sane above;
+      published = entries-snoc c a.host_part v.daemon_part.segment.history (published_at v.daemon_part.segment v.daemon_part.segment.position) o.published
+          (entries_at c a.host_part v.daemon_part.segment.history (v.daemon_part.segment.position - v.daemon_part.segment.base - 1) o.published (omega arith));
+      in_hand = λ on. absurd (omega arith);
+      point = even_point v.daemon_part.segment n h.writes value;
+    }

@@ -1,7 +1,6 @@
 pub mod Lists
 pub mod Frames
 pub mod HostLaws
-pub mod Good
 pub mod DaemonLaws
 pub mod LoadLaws
 pub mod SeatLaws

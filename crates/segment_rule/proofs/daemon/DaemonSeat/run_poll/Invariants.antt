@@ -1,6 +1,6 @@
 use Rattle.std.proofs.Common.{◌≡◌, false}
 use Rattle.writer_reopen.specs.PollMachine.{stage_steps}
-use Rattle.segment_rule.specs.Polls.{order_for, entry_in}
+use Rattle.segment_rule.specs.Polls.{entry_in}
 use Rattle.segment_rule.proofs.Polling.{IsPolling}
 use Rattle.segment_rule.proofs.daemon.DaemonSeat.run_poll.Given as goal
 
@@ -8,7 +8,7 @@ abbrev pub invariant-polling : goal.invariant-polling
 invariant-polling l = record {
   table : l.self.table ≡ l.fn.self.table;
   shut : l.self.is_open ≡ false;
-  polling : IsPolling l.clock (order_for l.fn.self.view l.fn.daemon l.fn.number l.fn.heard l.fn.stop l.fn.tries) l.fn.self.view l.machine l.self.view;
+  polling : IsPolling l.clock l.fn.machine.order l.fn.self.view l.machine l.self.view;
 }
 
 abbrev pub decreases-polling : goal.decreases-polling
