@@ -31,10 +31,11 @@ Allows command bytes status.Write = IsAccepted command bytes
 Allows command bytes status.TooLong = INPUT_LIMIT < length bytes
 Allows command bytes status.Memory = ⊤
 
--- a sink holds this output after what it held, or a front of the output
+-- a sink holds the output after what it held
 abbrev pub HoldsOutput : Command → List ℕ → List ℕ → Option (List ℕ) → Type 0
 HoldsOutput command bytes before held = IfOk (output_of command bytes) (λ output. (text : List ℕ) × IsOutput output text × (held ≡ Some (before ++ text)))
 
+-- or a front of the output
 abbrev pub HoldsFront : Command → List ℕ → List ℕ → Option (List ℕ) → Type 0
 HoldsFront command bytes before held = IfOk (output_of command bytes) (λ output. (text : List ℕ) × IsOutput output text × (n : ℕ) × (held ≡ Some (before ++ take n text)))
 
