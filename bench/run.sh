@@ -11,7 +11,7 @@ trap 'rm -rf "$work"' EXIT
 head -c 16777216 /dev/zero | tr '\0' '\n' > "$work/feeds.txt"
 reply=$(cat "$top/examples/steady-reply.hex")
 yes "$reply" | tr -d '\n' | head -c 16777216 > "$work/digits.txt"
-for text in reads spans turns lines calls polls full; do
+for text in reads spans turns lines calls polls full seconds clients; do
     "$top/bench/texts.py" "$text" > "$work/$text.txt"
 done
 
@@ -54,6 +54,15 @@ best "replay, 50,000,000 turns of two clients" "$work/turns.txt" replay
 best "replay, 49,999,950 turns in 999,999 lines" "$work/lines.txt" replay
 best "replay, 100,000 polls and 300,000 calls" "$work/calls.txt" replay
 best "order 1000000, 16 MiB" "$work/full.txt" order 1000000
+audited() { # NAME TRACE: an audit of what `replay` reports of the trace, in the order of threads
+    "${programs[0]}" replay < "$2" > "$work/report.txt"
+    "$top/bench/texts.py" reported "$2" "$work/report.txt" > "$work/audit.txt"
+    best "$1" "$work/audit.txt" audit
+    [ "$(cat "$work/out")" = lawful ] || echo "$1: not lawful"
+}
+audited "audit of a day of 20,000 polls" "$work/day.txt"
+audited "audit, 300,000 answers of 64 clients" "$work/clients.txt"
+audited "audit, 27,000 seconds, 16 MiB" "$work/seconds.txt"
 best "decode reply, one reply" "$top/examples/steady-reply.hex" decode reply
 best "decode reply, 16 MiB of digits" "$work/digits.txt" decode reply
 best "pagetime, 299,999 reads" "$work/reads.txt" pagetime

@@ -3,7 +3,9 @@
 of 1,000 servers with 1,000 questions among them; `turns`, 50,000,000 turns of two clients whose calls meet an update that never ends;
 `lines`, 49,999,950 turns in 999,999 lines, most of them of parties without a job; `calls`, 100,000 polls and 300,000 calls; `polls`, 20,000
 polls, each with its clock row and three calls, and 800,000 lines of any party's turns; `full`, seconds of a clock row with its true time, a poll and
-three calls until 16 MiB are full."""
+three calls until 16 MiB are full; `clients`, 300,000 calls of 64 clients before a first record, after 1,000 of them, and while an update is open; `seconds`,
+27,000 of those seconds.
+texts.py reported TRACE REPORT: a trace, the line `report`, and what `replay` reports of it, in the order of threads, which is lawful."""
 import pathlib
 import random
 import sys
@@ -67,17 +69,54 @@ def polls():
         yield f"run,{draw.choice(['h', 'd', 'c1', 'c2', 'c3'])},{draw.randint(1, 20)}"
 
 
+def second(k, draw):
+    real = 1700000000 * 10**9 + k * 10**9
+    reply = f"{REPLY[:120]}{0x65000000 + k:08x}{REPLY[128:]}"
+    return [f"clock,{k * 10**9},{real},{real + draw.randint(-3_000, 3_000)}", f"poll,{reply}", "call,1", "call,2", "call,3"]
+
+
 def full():
     draw = random.Random(1)
     size, k = 0, 0
-    seconds = ["clockbound-trace,1", f"page,{PAGE}"]
-    while size + sum(map(len, seconds)) + len(seconds) <= 16_777_216:
-        yield from seconds
-        size += sum(map(len, seconds)) + len(seconds)
+    rows = ["clockbound-trace,1", f"page,{PAGE}"]
+    while size + sum(map(len, rows)) + len(rows) <= 16_777_216:
+        yield from rows
+        size += sum(map(len, rows)) + len(rows)
         k += 1
-        real = 1700000000 * 10**9 + k * 10**9
-        reply = f"{REPLY[:120]}{0x65000000 + k:08x}{REPLY[128:]}"
-        seconds = [f"clock,{k * 10**9},{real},{real + draw.randint(-3_000, 3_000)}", f"poll,{reply}", "call,1", "call,2", "call,3"]
+        rows = second(k, draw)
+
+
+def seconds():
+    draw = random.Random(1)
+    yield "clockbound-trace,1"
+    for k in range(1, 27_001):
+        yield from second(k, draw)
+
+
+def clients():
+    draw = random.Random(1)
+    yield "clockbound-trace,1"
+    yield "set,tries,1"
+    yield from second(1, draw)[:1]
+    for k in range(140_000):
+        yield f"call,{k % 64 + 1}"
+    for k in range(2, 1_002):
+        yield from second(k, draw)[:2]
+        for _ in range(64):
+            yield f"call,{draw.randint(1, 64)}"
+    yield f"poll,{REPLY},3"
+    for k in range(96_000):
+        yield f"call,{k % 64 + 1}"
+
+
+def reported(trace, report):
+    rows = pathlib.Path(report).read_text().splitlines()[:-1]
+    answers = sorted((row for row in rows if row.startswith("ans,")), key=lambda row: [int(n) for n in row.split(",")[1:3]])
+    yield from pathlib.Path(trace).read_text().splitlines()
+    yield "report"
+    yield from (row for row in rows if not row.startswith(("ans,", "total,")))
+    yield from answers
+    yield rows[-1]
 
 
 def lines():
@@ -89,7 +128,9 @@ def lines():
 
 
 def main():
-    for line in {"reads": reads, "spans": spans, "turns": turns, "calls": calls, "lines": lines, "polls": polls, "full": full}[sys.argv[1]]():
+    texts = {"reads": reads, "spans": spans, "turns": turns, "calls": calls, "lines": lines, "polls": polls, "full": full,
+             "seconds": seconds, "clients": clients, "reported": reported}
+    for line in texts[sys.argv[1]](*sys.argv[2:]):
         print(line)
 
 

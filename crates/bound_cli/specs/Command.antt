@@ -7,7 +7,7 @@ use Rattle.bound_order.specs.declared.lease.TheConstants.{LONGEST_LEASE}
 use Rattle.drill_day.specs.declared.limits.TheConstants.{FEWEST_DAY_POLLS, MOST_DAY_POLLS}
 use Rattle.csv_records.specs.Fields.{number_in}
 use Rattle.bound_cli.specs.declared.command.Command.{Command}
-use Rattle.bound_cli.specs.declared.command.Command.TheVariants.{Replay, Decode, Pagetime, Agree, Order, Drill, DrillTrace}
+use Rattle.bound_cli.specs.declared.command.Command.TheVariants.{Replay, Decode, Pagetime, Agree, Audit, Order, Drill, DrillTrace}
 use Rattle.bound_cli.specs.declared.times.Times.TheVariants.{Nanoseconds, Civil}
 
 -- no word follows; one that does has this number
@@ -53,7 +53,7 @@ abbrev pub drill_of : List (List ℕ) → Result Command ℕ
 drill_of [] = Err 2
 drill_of (seed ∷ words) = drill_from (number_in 0 (2 ^ 64 - 1) seed) words
 
--- those, `pagetime` and `agree`
+-- those, `pagetime`, `agree` and `audit`
 unfoldable pub command_of : List (List ℕ) → Result Command ℕ
 command_of [] = Err 1
 command_of (first ∷ words) =
@@ -61,6 +61,7 @@ command_of (first ∷ words) =
     else if bytes_eq first (codes "decode") then decode_of words
     else if bytes_eq first (codes "pagetime") then alone Pagetime 2 words
     else if bytes_eq first (codes "agree") then alone Agree 2 words
+    else if bytes_eq first (codes "audit") then alone Audit 2 words
     else if bytes_eq first (codes "order") then ordering_of words
     else if bytes_eq first (codes "drill") then drill_of words
     else Err 1
@@ -71,6 +72,7 @@ reads (Replay times) = true
 reads (Decode what) = true
 reads Pagetime = true
 reads Agree = true
+reads Audit = true
 reads (Order length) = true
 reads (Drill seed polls) = false
 reads (DrillTrace seed polls) = false
@@ -81,6 +83,7 @@ IsAllowed (Replay times) = Unit {0}
 IsAllowed (Decode what) = Unit {0}
 IsAllowed Pagetime = Unit {0}
 IsAllowed Agree = Unit {0}
+IsAllowed Audit = Unit {0}
 IsAllowed (Order length) = length ≤ LONGEST_LEASE
 IsAllowed (Drill seed polls) = (FEWEST_DAY_POLLS ≤ polls) × (polls ≤ MOST_DAY_POLLS)
 IsAllowed (DrillTrace seed polls) = (FEWEST_DAY_POLLS ≤ polls) × (polls ≤ MOST_DAY_POLLS)

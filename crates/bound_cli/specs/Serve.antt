@@ -5,7 +5,7 @@ use Rattle.bound_cli.specs.declared.command.Command.{Command}
 use Rattle.bound_cli.specs.Command.{reads}
 use Rattle.bound_cli.specs.declared.status.Status.{Status}
 use Rattle.bound_cli.specs.declared.status.Status.TheVariants as status
-use Rattle.bound_cli.specs.Output.{output_of}
+use Rattle.bound_cli.specs.Output.{output_of, IsOutput}
 
 -- what a command takes its input from: all that the source has left, or nothing where it reads no input
 abbrev pub input_of : Command → Option (List ℕ) → Option (List ℕ)
@@ -31,13 +31,21 @@ Allows command bytes status.Write = IsAccepted command bytes
 Allows command bytes status.TooLong = INPUT_LIMIT < length bytes
 Allows command bytes status.Memory = ⊤
 
+-- a sink holds the output after what it held
+abbrev pub HoldsOutput : Command → List ℕ → List ℕ → Option (List ℕ) → Type 0
+HoldsOutput command bytes before held = IfOk (output_of command bytes) (λ output. (text : List ℕ) × IsOutput output text × (held ≡ Some (before ++ text)))
+
+-- or a front of the output
+abbrev pub HoldsFront : Command → List ℕ → List ℕ → Option (List ℕ) → Type 0
+HoldsFront command bytes before held = IfOk (output_of command bytes) (λ output. (text : List ℕ) × IsOutput output text × (n : ℕ) × (held ≡ Some (before ++ take n text)))
+
 -- what a sink holds after an answer: the whole output after Ok, a front of it after Write, and else nothing new
 abbrev pub Written : Command → List ℕ → List ℕ → Option (List ℕ) → Status → Type 0
-Written command bytes before held status.Ok = IfOk (output_of command bytes) (λ output. held ≡ Some (before ++ output))
+Written command bytes before held status.Ok = HoldsOutput command bytes before held
 Written command bytes before held (status.Usage n) = held ≡ Some before
 Written command bytes before held (status.Trace line reason) = held ≡ Some before
 Written command bytes before held status.Read = held ≡ Some before
-Written command bytes before held status.Write = IfOk (output_of command bytes) (λ output. (n : ℕ) × (held ≡ Some (before ++ take n output)))
+Written command bytes before held status.Write = HoldsFront command bytes before held
 Written command bytes before held status.TooLong = held ≡ Some before
 Written command bytes before held status.Memory = held ≡ Some before
 

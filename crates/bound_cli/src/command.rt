@@ -12,6 +12,8 @@ pub enum Command {
     Pagetime,
     /// `agree`: the points on which all but so many clocks agree.
     Agree,
+    /// `audit`: the verdict on a report of threads against its trace.
+    Audit,
     /// `order LENGTH`: stamps and leases by the answers of a trace, each lease so many nanoseconds long.
     Order { length: u64 },
     /// `drill SEED POLLS`: what the report of a generated day counts, and whether its promises were kept.

@@ -153,6 +153,9 @@ pub fn command_named(words: &[String]) -> Result<Command, u32>
             if first.as_str() == "agree" {
                 return alone(Command::Agree, 2, others);
             }
+            if first.as_str() == "audit" {
+                return alone(Command::Audit, 2, others);
+            }
             if first.as_str() == "order" {
                 return ordering_named(others);
             }

@@ -1,0 +1,50 @@
+//! Why a text without a line `report` is refused.
+ghost use Rattle.std.specs.Prelude.{◌≡◌, ◌≤◌, length, IfOk};
+ghost use Rattle.csv_records.specs.Records.{records_of};
+ghost use Rattle.csv_records.specs.TraceError.{Refuses};
+ghost use Rattle.audit_text.specs.Audited.{no_report, unreported};
+
+use csv::ByteRecord;
+use csv_records::Records;
+use std::alloc::{AllocError, Global};
+use trace_reader::{Reason, TraceError, TraceFault, read_trace};
+
+// How many records a text has.
+fn count_records(alloc: Global, bytes: &[u8]) -> Result<usize, AllocError>
+    ensures count { IfOk result (λ count. count ≡ length (records_of bytes.now)) }
+    ensures most { IfOk result (λ count. count ≤ length bytes.now) }
+{
+    let mut records = Records::new(alloc, bytes);
+    let mut row = ByteRecord::new(alloc);
+    let mut count = 0;
+    'counting: while records.read(&mut row)? {
+        count += 1;
+    }
+    Ok(count)
+}
+
+// The line after the last record of a text, where a line `report` is missing. No trace has so many records that their number isn't one of 32 bits.
+fn after_the_last(alloc: Global, bytes: &[u8]) -> TraceError
+    ensures { Refuses result (no_report bytes.now) }
+{
+    let Ok(count) = count_records(alloc, bytes) else {
+        return TraceError::Memory;
+    };
+    if count >= u32::MAX as usize {
+        return TraceError::Memory;
+    }
+    TraceError::Refused(TraceFault {
+        line: count as u32 + 1,
+        reason: Reason::Kind,
+    })
+}
+
+/// The fault of a text without a line `report`: that of its trace, or that the line is missing after the last record.
+pub fn refusal(alloc: Global, bytes: &[u8]) -> TraceError
+    ensures { Refuses result (unreported bytes.now) }
+{
+    match read_trace(alloc, bytes) {
+        Ok(_) => after_the_last(alloc, bytes),
+        Err(error) => error,
+    }
+}
