@@ -61,20 +61,19 @@ class Explainer:
                 f"{mono}, {ns(as_of - mono)} before. More than 1,000 ns are no matter of rounding: clock and record don't belong together.")
 
     def say_pagebusy(self, first, last):
-        return f"{self.who} got no interval: {self.tries_failed('the page')}, the last by {self.counts('sequence count', first, last)}."
+        tries = self.trace.calls[self.answer.client][self.answer.call - 1]
+        return f"{self.who} got no interval: {self.failed(tries, 'page', 'sequence count', first, last)}"
 
     def say_busy(self, tries, first, last):
-        text = f"{self.who} got no interval: each of its {tries} tries to read the segment failed, the last by {self.counts('generation', first, last)}."
+        text = f"{self.who} got no interval: {self.failed(tries, 'segment', 'generation', first, last)}"
         return f"{text} {self.open_update()}" if first % 2 else text
 
-    def tries_failed(self, what):
-        tries = self.trace.calls[self.answer.client][self.answer.call - 1]
-        return f"each of its {tries} tries to read {what} failed"
-
-    def counts(self, what, first, last):
+    def failed(self, tries, what, count, first, last):
+        """How the tries of a read failed, by the two counts of the last one."""
+        said = f"its only try to read the {what} failed: it" if tries == 1 else f"each of its {tries} tries to read the {what} failed. The last"
         if first % 2:
-            return f"the odd {what} {first}, which means that it was being written"
-        return f"the {what}, which was {first} before and {last} after its loads"
+            return f"{said} met the odd {count} {first}, so that the {what} was being written."
+        return f"{said} met the {count} {first} at first and {last} at the end, so that the {what} was written in between."
 
     def open_update(self):
         """Whose update was open at this answer, and what ended it."""
@@ -244,7 +243,7 @@ class Explainer:
 
     def why_bound(self, number):
         offset, bound = self.trace.row(number).offset, self.claim.base.bound
-        return f"At clock row {number}, when the reply was there, the clock was {ahead(offset)}, and chronyd's bound said at most {ns(bound)}."
+        return f"At clock row {number}, where the base poll had its reply, the clock was {ahead(offset)}, and the bound of that reply is {ns(bound)}."
 
     def why_drift(self, number):
         before, row = self.trace.row(number - 1), self.trace.row(number)
@@ -259,11 +258,13 @@ class Explainer:
         return f"Row {place} of the host changed the marker to one that an earlier page had, so that a reader can't tell the two apart."
 
 
-def answer_of(report, client, call):
-    """The answer to a client's call."""
+def explained(trace_path, report_path, client, call):
+    """The sentences on the answer to a client's call, one a line."""
+    trace, report = read_trace(trace_path), read_report(report_path)
+    require_same_run(trace, report)
     for event in report.events:
         if isinstance(event, (Interval, Refusal)) and (event.client, event.call) == (client, call):
-            return event
+            return "\n".join(Explainer(trace, report, event).sentences()) + "\n"
     raise Unreadable(f"the report has no answer to call {call} of client {client}")
 
 
@@ -275,9 +276,7 @@ def main():
     parser.add_argument("call", type=int)
     given = parser.parse_args()
     try:
-        trace, report = read_trace(given.trace), read_report(given.report)
-        require_same_run(trace, report)
-        print("\n".join(Explainer(trace, report, answer_of(report, given.client, given.call)).sentences()))
+        sys.stdout.write(explained(given.trace, given.report, given.client, given.call))
     except Unreadable as fault:
         print(f"explain.py: {fault}", file=sys.stderr)
         sys.exit(2)
