@@ -149,7 +149,8 @@ def other_phrases():
 def main():
     page = " ".join(PAGE.read_text().split())
     rows = [Recording(path.stem).table_row() for path in sorted(RECORDINGS.glob("*.trace"))]
-    missing = [phrase for phrase in rows + jump_phrases() + lost_phrases() + other_phrases() if phrase not in page]
+    phrases = rows + jump_phrases() + lost_phrases() + other_phrases()
+    missing = [phrase for phrase in phrases if " ".join(phrase.split()) not in page]
     print("\n".join(missing))
     sys.exit(1 if missing or len(rows) < 9 else 0)
 
