@@ -31,9 +31,11 @@ class Clock:
         self.name, self.number = name, MONOTONIC[name]
 
     def mono(self):
+        """The monotonic time alone."""
         return time.clock_gettime_ns(self.number)
 
     def read(self):
+        """MONO and REAL of one instant."""
         if self.name == "monotonic":
             return self.read_by_difference()
         pairs = []
@@ -132,6 +134,7 @@ class Chronyd:
         return b""
 
     def close(self):
+        """Leaves no socket behind."""
         self.socket.close()
         if self.own:
             os.unlink(self.own)
@@ -146,6 +149,7 @@ class Capture:
         self.chronyd = Chronyd(given)
 
     def run(self):
+        """Polls and calls until the time is up, or until it is interrupted."""
         given, begin = self.given, time.monotonic()
         try:
             for poll in range(round(given.seconds / given.every)):
@@ -164,10 +168,12 @@ class Capture:
             raise Refused("nothing was taken")
 
     def sample(self):
+        """Reads the trusted clock, if there is one."""
         if self.trusted:
             self.trusted.sample()
 
     def poll(self, moment):
+        """A row, a request with its reply, a row, and a call at it."""
         sleep_until(moment)
         self.row()
         reply = self.chronyd.ask()
@@ -179,15 +185,18 @@ class Capture:
         self.call()
 
     def row(self):
+        """Reads the clock, and lets the host do this row."""
         first = not self.lines
         self.lines.append(self.clock.read())
         if not first:
             self.lines.append("do,h,1")
 
     def call(self):
+        """A call, done at once."""
         self.lines += ["call,1", "do,c1,1"]
 
     def text(self):
+        """The whole trace."""
         lines = ["clockbound-trace,1"] + [f"set,drift,{self.given.drift}"] * (self.given.drift is not None)
         for line in self.lines:
             if isinstance(line, tuple):
@@ -198,6 +207,7 @@ class Capture:
 
 
 def sleep_until(moment):
+    """Waits for a moment of the monotonic clock; not at all where it has gone by."""
     time.sleep(max(0, moment - time.monotonic()))
 
 
@@ -233,6 +243,7 @@ def check(given):
 
 
 def main():
+    """The command."""
     given = words().parse_args()
     try:
         check(given)

@@ -7,9 +7,8 @@ import argparse
 import datetime
 import sys
 
-from promises import UNTOLD, broken_promise, claim_of
+from promises import UNCLEAR, broken_promise, claim_of
 from recording import Interval, Moved, Opening, Publication, Refusal, Stop, Unreadable, read_report, read_trace, require_same_run
-
 
 
 def civil(nanoseconds):
@@ -44,8 +43,9 @@ class Explainer:
         self.who = f"Call {answer.call} of client {answer.client}"
 
     def sentences(self):
+        """All sentences, one a line."""
         if isinstance(self.answer, Refusal):
-            return [getattr(self, "say_" + self.answer.why)(*self.answer.numbers)]
+            return [self.say_refusal()]
         self.claim = claim_of(self.report.events, self.answer)
         self.record = self.claim.read or self.image_record()
         said = [self.say_interval(), self.say_record(), self.say_status(), self.say_base(), self.say_page(), self.say_truth(), self.say_promises()]
@@ -53,18 +53,27 @@ class Explainer:
 
     # Answers without an interval.
 
+    def say_refusal(self):
+        """Why there is no interval."""
+        kinds = {"notinit": self.say_notinit, "causality": self.say_causality, "pagebusy": self.say_pagebusy, "busy": self.say_busy}
+        return kinds[self.answer.why](*self.answer.numbers)
+
     def say_notinit(self):
+        """Nothing was published."""
         return f"{self.who} got no interval: nothing had been published when it read the segment."
 
     def say_causality(self, as_of, mono):
+        """The clock lies too far before the record."""
         return (f"{self.who} got no interval: the record that it read is as of {as_of}, and the clock row that it read has the monotonic time "
                 f"{mono}, {ns(as_of - mono)} before. More than 1,000 ns are no matter of rounding: clock and record don't belong together.")
 
     def say_pagebusy(self, first, last):
+        """All tries of the page failed."""
         tries = self.trace.calls[self.answer.client][self.answer.call - 1]
         return f"{self.who} got no interval: {self.failed(tries, 'page', 'sequence count', first, last)}"
 
     def say_busy(self, tries, first, last):
+        """All tries of the segment failed."""
         text = f"{self.who} got no interval: {self.failed(tries, 'segment', 'generation', first, last)}"
         return f"{text} {self.open_update()}" if first % 2 else text
 
@@ -99,11 +108,13 @@ class Explainer:
         return Publication(0, 0, self.answer.generation, 1, 0, 1, image.status, image.as_of, image.bound, image.marker, 0)
 
     def say_interval(self):
+        """The interval, its status, and the clock row in its middle."""
         answer, row = self.answer, self.trace.row(self.answer.row)
         return (f"{self.who} got the interval from {answer.earliest} to {answer.latest}, {answer.status}: {ns(answer.latest - row.real)} to each "
                 f"side of the time {row.real} ({civil(row.real)}) of clock row {row.number}.")
 
     def say_record(self):
+        """The record that the call read."""
         record = self.record
         origin = f"publication {record.position}, which poll {record.poll} made" if record.poll else "the record of the segment's image, which the call read"
         return f"It rests on {origin} under generation {record.generation}: status {record.status}, marker {record.marker}."
@@ -127,6 +138,7 @@ class Explainer:
         return f"It is synchronized because the reply of poll {record.poll} was good, and {ns(age)} have passed since as-of, fewer than 5 s."
 
     def say_other_marker(self):
+        """Disrupted, as page and record differ."""
         page, record = self.trace.pages[self.answer.page], self.record
         if page.marker == record.marker:
             return "It is disrupted because the record was made without looking at a page, and there is one."
@@ -171,6 +183,7 @@ class Explainer:
         return life[0].poll, "the daemon had just started and found a record that was disrupted, without a marker, or with another marker than the page"
 
     def say_mark(self):
+        """Disrupted, as the record is: which poll marked, and what hasn't come since."""
         if not self.record.poll:
             return "It is disrupted because that record is."
         marking, why = self.marking_poll()
@@ -184,12 +197,14 @@ class Explainer:
         return f"{text}{self.reasons(since, 0, self.trace.poll(guard).reply.reference)} {self.say_absorbed()}"
 
     def say_absorbed(self):
+        """Which later poll ended the disruption."""
         for event in self.report.of_kind(Publication):
             if event.position > self.record.position and event.status != "disrupted":
                 return f"Poll {event.poll} ended it, at publication {event.position}."
         return "Nothing in this report ended it."
 
     def say_base(self):
+        """The poll that gave as-of and bound, and what the bound was made of."""
         read, answer, base = self.record, self.answer, self.claim.base
         if base is None:
             return None if answer.status == "unknown" else "No poll of the trace gave its as-of and its bound."
@@ -203,6 +218,7 @@ class Explainer:
                 f"since as-of it grew by {ns(growth)}, at a drift of {self.trace.drift:,} ppb.")
 
     def say_page(self):
+        """The page that the call read."""
         if not self.trace.pages:
             return None
         page = self.trace.pages[self.answer.page]
@@ -211,6 +227,7 @@ class Explainer:
         return f"The call read page {page.number}, {stored}: marker {page.marker}, {same}."
 
     def say_truth(self):
+        """Whether the interval contains true time."""
         row, answer = self.trace.row(self.answer.row), self.answer
         if row.truth is None:
             return f"Clock row {row.number} doesn't tell true time, so that nothing is known of what the interval contains."
@@ -219,42 +236,56 @@ class Explainer:
         return f"The interval misses true time by {ns(abs(row.offset) - (answer.latest - row.real))}: the clock was {ahead(row.offset)}."
 
     def say_promises(self):
+        """The first broken promise, if there is one."""
         if not self.answer.is_trusted:
             return f"An answer that is {self.answer.status} claims nothing, and its promises aren't judged."
         broken = broken_promise(self.trace, self.report, self.claim, self.answer)
         if broken is None:
             return "All seven promises behind it were kept."
-        if broken == UNTOLD:
+        if broken == UNCLEAR:
             return "Whether its promises were kept isn't to be told from the report: it names another answer, and this one depends on the turns."
         named = self.report.premises[1:3] == [self.answer.client, self.answer.call]
         who = "The report's last line names this answer, the first whose promises weren't kept" if named else "Its promises weren't kept"
-        return f"{who}: {broken[0]}, at {broken[1]}. {getattr(self, 'why_' + broken[0])(broken[1])}"
+        return f"{who}: {broken[0]}, at {broken[1]}. {self.say_broken(*broken)}"
 
-    # What a broken promise says.
+    # What a broken promise means.
+
+    def say_broken(self, why, at):
+        """What was found where the last line's AT points."""
+        kinds = {"wrap": self.why_wrap, "image": self.why_image, "untold": self.why_untold, "bound": self.why_bound, "drift": self.why_drift,
+                 "mark": self.why_mark, "repeat": self.why_repeat}
+        return kinds[why](at)
 
     def why_wrap(self, inside):
+        """A whole period of publications fell into the read."""
         return f"{inside:,} publications fell into the read, as many as generations there are, so that it may have words of several records."
 
     def why_image(self, _):
+        """No poll of the trace is the base."""
         return "As-of and bound are those of the image, and no poll of the trace vouches for them."
 
     def why_untold(self, number):
+        """A clock row tells no true time."""
         return f"Clock row {number} tells no true time, so that nothing can be said of the rows from the base poll's reply to this answer."
 
     def why_bound(self, number):
+        """The clock was further off than the base poll's bound."""
         offset, bound = self.trace.row(number).offset, self.claim.base.bound
         return f"At clock row {number}, where the base poll had its reply, the clock was {ahead(offset)}, and the bound of that reply is {ns(bound)}."
 
     def why_drift(self, number):
+        """The clock moved too far between two rows."""
         before, row = self.trace.row(number - 1), self.trace.row(number)
         passed, change = row.mono - before.mono, row.offset - before.offset
         return (f"From clock row {number - 1} to row {number}, in {ns(passed)}, the clock moved by {ns(abs(change))} against true time; a drift of "
                 f"{self.trace.drift:,} ppb allows {ns(passed * self.trace.drift // 10**9)}.")
 
     def why_mark(self, place):
+        """A disruption that no page told."""
         return f"Row {place} of the host disturbed the counter behind the clock, and no page with a new marker had told it when the call looked."
 
     def why_repeat(self, place):
+        """A marker came again."""
         return f"Row {place} of the host changed the marker to one that an earlier page had, so that a reader can't tell the two apart."
 
 
@@ -269,6 +300,7 @@ def explained(trace_path, report_path, client, call):
 
 
 def main():
+    """The command."""
     parser = argparse.ArgumentParser(description=__doc__.splitlines()[0])
     parser.add_argument("trace")
     parser.add_argument("report")

@@ -67,6 +67,7 @@ class Picture:
         self.told = all(row.truth is not None for row in trace.rows)
 
     def svg(self):
+        """The whole picture."""
         self.write_title()
         scale = self.upper_scale()
         self.write_axis(scale, UPPER, "ahead of true time" if self.told else "from the clock's time")
@@ -85,6 +86,7 @@ class Picture:
     # Small parts.
 
     def x(self, mono):
+        """Where a monotonic time stands."""
         return round(LEFT + (mono - self.start) / self.length * (RIGHT - LEFT), 1)
 
     def row_x(self, number):
@@ -109,6 +111,7 @@ class Picture:
         return answer.earliest - zero, answer.latest - zero
 
     def upper_scale(self):
+        """A scale that is even up to a usual half width, and reaches the furthest end."""
         halves = sorted((answer.latest - answer.earliest) // 2 for answer in self.answers) or [1000]
         reach = max([abs(end) for answer in self.answers for end in self.ends(answer)] + [1000])
         return Scale(power_below(max(halves[len(halves) // 2], 10)), reach, UPPER, True)
@@ -116,6 +119,7 @@ class Picture:
     # The parts of the picture.
 
     def write_title(self):
+        """How many publications and intervals, the last line, and how many intervals contain true time."""
         premises = ",".join(map(str, ["premises", *self.report.premises]))
         self.text(LEFT, 24, f"{len(self.publications)} publications, {len(self.answers)} intervals; {premises}", ' font-size="15"')
         trusted = sum(answer.is_trusted for answer in self.answers)
@@ -126,6 +130,7 @@ class Picture:
             self.text(LEFT, 46, "Not every clock row tells true time: the intervals stand around the clock's own time.")
 
     def write_axis(self, scale, span, words):
+        """A frame with a line and a label for each round number."""
         top, bottom = span
         self.parts.append(f'<rect x="{LEFT}" y="{top}" width="{RIGHT - LEFT}" height="{bottom - top}" fill="none" stroke="#999"/>')
         for tick in scale.ticks():
@@ -136,6 +141,7 @@ class Picture:
         self.parts.append(f'<text transform="{turned}" text-anchor="middle">{escape(words)}</text>')
 
     def write_intervals(self, scale):
+        """Each interval as an upright line; those that miss true time come last, on top of the others."""
         strokes = {}
         for answer in self.answers:
             low, high = map(scale, self.ends(answer))
@@ -189,6 +195,7 @@ class Picture:
         return max((row for row in self.trace.rows if row.place <= place), key=lambda row: row.place, default=self.trace.rows[0]).mono
 
     def write_moments(self):
+        """A dashed line for each moment, with its words where there is room."""
         free = 0  # where the words before end
         for mono, words in self.moments().items():
             x, said = self.x(mono), ", ".join(words)
@@ -198,6 +205,7 @@ class Picture:
                 free = x + 6 * len(said)
 
     def write_time(self):
+        """The axis of time, in seconds since the first clock row."""
         size = power_below(self.length)
         step = next(size // part for part in (10, 5, 2, 1) if self.length * part // size <= 12)
         for moment in range(0, self.length + 1, step):
@@ -207,6 +215,7 @@ class Picture:
         self.text((LEFT + RIGHT) / 2, STRIP[1] + 34, "since the first clock row", ' text-anchor="middle"')
 
     def write_legend(self):
+        """The colours that occur, and how many answers had no interval."""
         seen = {answer.status for answer in self.answers} | {event.status for event in self.publications}
         entries = [(colour, NAMES[status]) for status, colour in COLOURS.items() if status in seen]
         entries += [(MISSED, "misses true time")] * any(map(self.misses, self.answers))
@@ -222,6 +231,7 @@ class Picture:
 
 
 def main():
+    """The command."""
     parser = argparse.ArgumentParser(description=__doc__.splitlines()[0])
     parser.add_argument("trace")
     parser.add_argument("report")

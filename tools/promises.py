@@ -1,12 +1,12 @@
 """Which promise behind an answer is broken, worked out from a trace and its report by the rules of docs/formats.md, "The last line".
 
 A report names only the first answer whose promises weren't kept; this judges each. The report doesn't tell between which rows of
-the host a poll loaded the marker, only the rows that it read before and after; `UNTOLD` says that the two ends of this span differ."""
+the host a poll loaded the marker, only the rows that it read before and after; `UNCLEAR` says that the two ends of this span differ."""
 from dataclasses import dataclass
 
 from recording import PERIODS, Moved, Opening, Publication
 
-UNTOLD = ("unclear", 0)
+UNCLEAR = ("unclear", 0)
 
 
 @dataclass(frozen=True)
@@ -90,7 +90,7 @@ def broken_at(trace, claim, answer, marked_at):
 
 
 def broken_promise(trace, report, claim, answer):
-    """The first broken promise of a trusted answer and its place; None where all were kept, UNTOLD where the report leaves it open."""
+    """The first broken promise of a trusted answer and its place; None where all were kept, UNCLEAR where the report leaves it open."""
     if report.premises == ["held"]:
         return None
     _, client, call, why, at = report.premises
@@ -100,8 +100,8 @@ def broken_promise(trace, report, claim, answer):
     if report.events.index(answer) < report.events.index(named):
         return None
     if len(report.of_kind(Publication)) >= PERIODS[trace.layout]:
-        return UNTOLD  # a whole period may have fallen into the read
+        return UNCLEAR  # a whole period may have fallen into the read
     if claim.base is None:
         return "image", 0
     ends = [broken_at(trace, claim, answer, place) for place in marker_load_span(trace, claim.base)]
-    return ends[0] if ends[0] == ends[1] else UNTOLD
+    return ends[0] if ends[0] == ends[1] else UNCLEAR

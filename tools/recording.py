@@ -284,6 +284,7 @@ class Report:
         return [event for event in self.events if isinstance(event, kind)]
 
 
+REFUSALS = {"busy": 6, "notinit": 3, "pagebusy": 5, "causality": 5}  # how many fields such an answer has after `ans`
 EVENTS = {"open": Opening, "moved": Moved, "pub": Publication, "skip": Skip, "stop": Stop}
 
 
@@ -298,6 +299,8 @@ def event_of(fields):
         return EVENTS[kind](*rest)
     if rest[2] == "time":
         return Interval(rest[0], rest[1], *rest[3:9])  # what --civil adds is left out
+    if len(rest) != REFUSALS[rest[2]]:
+        raise ValueError
     return Refusal(rest[0], rest[1], rest[2], tuple(rest[3:]))
 
 
@@ -320,13 +323,16 @@ def read_report(path):
 
 
 def require_same_run(trace, report):
-    """Refuses a report whose rows aren't this trace's."""
+    """Refuses a report that names what this trace doesn't have."""
     for event in report.events:
-        if isinstance(event, Interval):
-            if event.earliest + event.latest != 2 * trace.row(event.row).real:
-                raise Unreadable(f"the report isn't of this trace: call {event.call} of client {event.client} has another time than row {event.row}")
-        elif isinstance(event, Publication):
-            trace.poll(event.poll)
-            trace.row(event.replied)
-            if event.page >= max(1, len(trace.pages)):
-                raise Unreadable(f"the report isn't of this trace: it names page {event.page}, and the trace has {len(trace.pages)}")
+        if isinstance(event, Interval) and event.earliest + event.latest != 2 * trace.row(event.row).real:
+            raise Unreadable(f"the report isn't of this trace: call {event.call} of client {event.client} has another time than row {event.row}")
+        if isinstance(event, Publication):
+            reply = trace.poll(event.poll).reply
+            times = trace.row(event.asked).mono, trace.row(event.replied).mono
+            if event.base == event.poll and not (reply and reply.is_good and (reply.bound, times[0]) == (event.bound, event.as_of)):
+                raise Unreadable(f"the report isn't of this trace: poll {event.poll} has another as-of or bound there")
+        if isinstance(event, (Interval, Publication)) and event.page >= max(1, len(trace.pages)):
+            raise Unreadable(f"the report isn't of this trace: it names page {event.page}, and the trace has {len(trace.pages)}")
+        if isinstance(event, (Interval, Refusal)) and event.call > len(trace.calls.get(event.client, [])):
+            raise Unreadable(f"the report isn't of this trace: there is no call {event.call} of client {event.client}")
