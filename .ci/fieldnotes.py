@@ -79,6 +79,12 @@ class Recording:
         passed = (after.mono - before.mono) / 10**6
         return (after.offset - before.offset) / passed, (end.bound - begin.bound) / passed
 
+    def steepest(self):
+        """The greatest change against true time between two rows at least 10 ms apart, from the first trusted answer on, in ppm."""
+        rows = self.trace.rows[self.trusted[0].row - 1 :]
+        return max(abs(after.offset - before.offset) * 10**6 / (after.mono - before.mono)
+                   for before, after in zip(rows, rows[1:]) if after.mono - before.mono > 10**7)
+
     def table_row(self):
         """The recording's row of the table."""
         held = {status: sum(self.miss(answer) <= 0 for answer in self.of_status(status)) for status in ("synchronized", "freerunning")}
@@ -116,8 +122,6 @@ def lost_phrases():
     ends = {recording.name: max(map(recording.half, recording.trusted)) for recording in (lost, wide)}
     gone = Recording("chronyd-gone")
     drift = gone.trace.row(gone.report.premises[4])
-    steepest = max((after.offset - before.offset) * 10**6 / (after.mono - before.mono)
-                   for before, after in zip(gone.trace.rows, gone.trace.rows[1:]) if after.mono - before.mono > 10**8)
     clock, bound = lost.growth(50, 105)
     return [
         f"Between polls 50 and 105 the clock goes by {clock:.1f} ppm against true time, and the bound grows by {bound:.1f} ppm",
@@ -126,14 +130,15 @@ def lost_phrases():
         f"{len(lost.missing)} of {len(lost.trusted)} answers miss true time, by up to {micro(max(map(lost.miss, lost.missing)))}, from "
         f"second {lost.seconds(lost.missing[0].row):.0f} to second {lost.seconds(lost.missing[-1].row):.0f}",
         f"up to {micro(ends['server-lost'])} to each side, against {micro(ends['server-lost-1ppm'])}",
-        f"{steepest:.0f} ppm",
+        f"goes by {gone.steepest():.0f} ppm where 50 were promised",
         f"names call {gone.report.premises[2]}, at second {gone.seconds(drift.number):.0f}",
         f"call {gone.missing[0].call}, misses it at second {gone.seconds(gone.missing[0].row):.1f}",
     ]
 
 
 def other_phrases():
-    lie, leap, restart, steady = map(Recording, ("lying-server", "leap-second", "restart", "steady"))
+    lie, leap, restart, steady, slewed = map(Recording, ("lying-server", "leap-second", "restart", "steady", "slewed-start"))
+    nearest = max(slewed.trusted, key=lambda answer: slewed.offset(answer) / slewed.half(answer))
     busy = [answer for answer in restart.report.of_kind(Refusal) if answer.why == "busy"]
     share = max(steady.offset(answer) / steady.half(answer) for answer in steady.trusted)
     return [
@@ -143,6 +148,10 @@ def other_phrases():
         f"{len(busy)} answers are busy",
         f"{len(restart.of_status('disrupted'))} are disrupted",
         f"at most {100 * share:.0f} % of the half width",
+        f"up to {slewed.steepest():,.0f} ppm",
+        f"names call {slewed.report.premises[2]}, and {slewed.broken()['drift']} answers fail `drift`. Yet all {len(slewed.trusted)} intervals contain",
+        f"Call {nearest.call} comes nearest to missing it, with {micro(-slewed.miss(nearest))} to spare",
+        f"goes by at most {steady.steepest():.0f} ppm",
     ]
 
 
@@ -152,7 +161,7 @@ def main():
     phrases = rows + jump_phrases() + lost_phrases() + other_phrases()
     missing = [phrase for phrase in phrases if " ".join(phrase.split()) not in page]
     print("\n".join(missing))
-    sys.exit(1 if missing or len(rows) < 9 else 0)
+    sys.exit(1 if missing or len(rows) < 11 else 0)
 
 
 if __name__ == "__main__":
