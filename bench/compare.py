@@ -176,4 +176,5 @@ def main():
     print(f"{len(traces)} traces and {len(days)} days alike, {accepted} of them accepted;", ", ".join(f"{n} {k}" for k, n in sorted(kinds.items())))
 
 
-main()
+if __name__ == "__main__":
+    main()

@@ -89,6 +89,14 @@ def broken_at(trace, claim, answer, marked_at):
     return None if place is None else ("repeat", place)
 
 
+def broken_by_rows(trace, claim, answer):
+    """The first broken promise but `wrap`, by the trace's rows; None where all were kept, UNCLEAR where it depends on the turns."""
+    if claim.base is None:
+        return "image", 0
+    ends = [broken_at(trace, claim, answer, place) for place in marker_load_span(trace, claim.base)]
+    return ends[0] if ends[0] == ends[1] else UNCLEAR
+
+
 def broken_promise(trace, report, claim, answer):
     """The first broken promise of a trusted answer and its place; None where all were kept, UNCLEAR where the report leaves it open."""
     if report.premises == ["held"]:
@@ -101,7 +109,4 @@ def broken_promise(trace, report, claim, answer):
         return None
     if len(report.of_kind(Publication)) >= PERIODS[trace.layout]:
         return UNCLEAR  # a whole period may have fallen into the read
-    if claim.base is None:
-        return "image", 0
-    ends = [broken_at(trace, claim, answer, place) for place in marker_load_span(trace, claim.base)]
-    return ends[0] if ends[0] == ends[1] else UNCLEAR
+    return broken_by_rows(trace, claim, answer)
