@@ -62,7 +62,7 @@ class Picture:
     def __init__(self, trace, report):
         self.trace, self.report, self.parts = trace, report, []
         self.start = trace.rows[0].mono
-        self.length = max(trace.rows[-1].mono - self.start, 1)
+        self.length = max(trace.rows[-1].mono - self.start, 1000)
         self.answers, self.publications = report.of_kind(Interval), report.of_kind(Publication)
         self.told = all(row.truth is not None for row in trace.rows)
 
