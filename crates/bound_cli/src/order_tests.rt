@@ -2,6 +2,7 @@ use super::*;
 use clock_gate::{List, MemSink, MemSource};
 use csv_records::Reason;
 use std::alloc::Global;
+use std::process::Abort;
 use std::test::Fail;
 
 const REPLY: &str =
@@ -23,13 +24,7 @@ fn served(alloc: Global, given: &[&str], text: &str) -> Result<(Status, Vec<u8>)
 }
 
 // Over a text with leases of this length nothing is refused, and this is written.
-fn tells(
-    rt: &HostRuntime,
-    alloc: Global,
-    length: &str,
-    text: &str,
-    told: &str,
-) -> Result<(), Fail> {
+fn tells(rt: &impl Abort, alloc: Global, length: &str, text: &str, told: &str) -> Result<(), Fail> {
     let (status, written) = served(alloc, &["order", length], text)?;
     assert_eq!(rt; status, Status::Ok);
     assert_eq!(rt; written.as_slice(), told.as_bytes());

@@ -16,7 +16,8 @@ use Rattle.lawful_report.specs.declared.printed.Printed.{Printed}
 use Rattle.lawful_report.specs.declared.printed.Printed.TheVariants.{Header, Opened, Published, Skipped, Stopped, Moved, Answered, Total}
 use Rattle.lawful_report.specs.Lines.{line_text, published_line, published_place, published_bound, published_base, opened_line, moved_line, header_line, total_line, skipped_line, stopped_line, answered_line, call_place, answer_text}
 use Rattle.lawful_report.specs.Pages.{page_seen}
-use Rattle.lawful_report.specs.Course.{Course, Life, poll_at, skipped, published, base_number}
+use Rattle.status_machine.specs.Base.{base_number}
+use Rattle.lawful_report.specs.Course.{Course, Life, poll_at, skipped, published}
 use Rattle.lawful_report.specs.declared.seen.Seen.{Seen}
 use Rattle.lawful_report.specs.declared.call.Call.{Call}
 use Rattle.lawful_report.specs.declared.counts.Counts.{Counts}

@@ -16,7 +16,8 @@ use Rattle.status_machine.specs.declared.daemon.Daemon.{Daemon}
 use Rattle.status_machine.specs.Incarnation.{record_at, base_at}
 use Rattle.status_machine.specs.Poll.{BaseFits}
 use Rattle.lawful_report.specs.declared.entry.Entry.{Entry}
-use Rattle.lawful_report.specs.Course.{Course, Life, poll_at, base_number, IsPublished}
+use Rattle.status_machine.specs.Base.{base_number}
+use Rattle.lawful_report.specs.Course.{Course, Life, poll_at, IsPublished}
 use Rattle.lawful_report.specs.Pages.{last_page, marker_at, marker_from, row_markers}
 use Rattle.lawful_report.specs.Lines.{published_line, published_place, published_rows, published_base}
 use Rattle.report_audit.specs.Auditor.{ShowsCourse}

@@ -21,7 +21,8 @@ use Rattle.lawful_report.specs.Points.{IsLeast}
 use Rattle.report_audit.specs.Leasts.{NoneHas}
 use Rattle.lawful_report.specs.Lines.{skipped_line, answered_line, published_line}
 use Rattle.lawful_report.specs.Pages.{PageTriesFail, page_seen, marker_at}
-use Rattle.lawful_report.specs.Course.{Course, Life, entry_at, entry_of, poll_at, base_number, IsPublished}
+use Rattle.status_machine.specs.Base.{base_number}
+use Rattle.lawful_report.specs.Course.{Course, Life, entry_at, entry_of, poll_at, IsPublished}
 use Rattle.lawful_report.specs.declared.entry.Entry.{Entry}
 use Rattle.lawful_report.specs.Calls.{GivesInterval, HasAsOf, MayAnswer}
 use Rattle.lawful_report.specs.declared.call.Call.{Call}

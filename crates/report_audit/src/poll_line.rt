@@ -5,7 +5,8 @@ ghost use Rattle.clock_gate.specs.declared.limits.TheConstants.{MOST_HOST_ROWS};
 ghost use Rattle.clock_gate.specs.declared.trace.PollRow.{PollRow};
 ghost use Rattle.clock_gate.specs.declared.trace.Trace.{Trace};
 ghost use Rattle.status_machine.specs.Poll.{BaseFits};
-ghost use Rattle.lawful_report.specs.Course.{Course, Life, base_number};
+ghost use Rattle.status_machine.specs.Base.{base_number};
+ghost use Rattle.lawful_report.specs.Course.{Course, Life};
 ghost use Rattle.report_audit.specs.FoundLines.{KnowsPoll, Polled};
 
 use clock_gate::{ClockRow, reading};
