@@ -57,6 +57,17 @@ impl Split<View> for CutDaemon {
     ghost right = { without_host };
 }
 
+// A further client's seat is cut off the first one.
+pub struct CutClient;
+
+impl Split<View> for CutClient {
+    ghost use Rattle.segment_views.specs.Seats.{whole_view, part_of};
+
+    ghost left = { whole_view };
+
+    ghost right = { part_of };
+}
+
 // A store of an opening.
 pub struct OpenStore;
 
