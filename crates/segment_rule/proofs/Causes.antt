@@ -1,6 +1,6 @@
 -- Why a poll answers as it does, by its steps.
-use Rattle.std.proofs.Common.{◌≡◌, ◌≢◌, ℕ, zero, suc, ◌+◌, ◌<◌, ◌≤◌, ◌⊎◌, inl, inr, Bool, true, false, List, [], ◌∷◌, length, refl, sym, ap, ◌∙◌, subst, arith, Option, Some, None}
-use Rattle.std.specs.Prelude.{◌↔◌, nat_lt, slice_index_or, if◌then◌else◌}
+use Rattle.std.proofs.Common.{◌≡◌, ◌≢◌, ℕ, zero, suc, ◌+◌, ◌<◌, ◌⊎◌, inl, inr, Bool, true, false, List, [], ◌∷◌, length, refl, sym, ap, ◌∙◌, subst, arith, Option, Some, None}
+use Rattle.std.specs.Prelude.{nat_lt, slice_index_or, if◌then◌else◌}
 use Rattle.std.proofs.lemmas.Bool.{cases_eq, cases_lt}
 use Rattle.std.proofs.lemmas.Bool.Decides.{nat_tests}
 use Rattle.clock_gate.specs.declared.act.Act.{Act}
@@ -28,8 +28,8 @@ use Rattle.writer_reopen.specs.declared.stage.Stage.TheVariants.{Asking, Looking
 use Rattle.writer_reopen.specs.declared.stage.Taken.{Taken}
 use Rattle.writer_reopen.specs.Causes.{IsSkipped, IsStopped, IsPublished}
 use Rattle.writer_reopen.specs.Poll.{reading_at, taken_for, stores_until, polled_by, storing_of, from_second_load, from_sight, from_tries, poll_of}
-use Rattle.writer_reopen.specs.PollMachine.{Polling, new_polling, looking_by, stage_progress, stage_given, stage_seen, polling_progress, polling_act, polling_given, polling_end, IsUnseen, IsUpdate, IsPollStage}
-use Rattle.writer_reopen.specs.Progress.{Progress, Asks, Ends, act_of, end_of, in_order}
+use Rattle.writer_reopen.specs.PollMachine.{Polling, new_polling, looking_by, stage_progress, stage_given, stage_seen, polling_act, polling_given, polling_end, IsUnseen, IsUpdate, IsPollStage}
+use Rattle.writer_reopen.specs.Progress.{Progress, Asks, act_of, end_of, in_order}
 use Rattle.writer_reopen.proofs.Cut.{act_before_stop, act_at_stop}
 use Rattle.writer_reopen.proofs.Causes.{skipped, stopped, published}
 use Rattle.writer_reopen.proofs.Polls.{stage_nearer, follows_its_values}

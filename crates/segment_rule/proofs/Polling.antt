@@ -1,10 +1,10 @@
 -- A poll that is under way, and what one step more makes of it.
-use Rattle.std.proofs.Common.{◌≡◌, ◌≢◌, ℕ, ◌+◌, ◌-◌, ◌*◌, ◌%◌, ◌<◌, ◌≤◌, ◌⊎◌, inl, inr, Bool, true, false, List, [], ◌∷◌, ◌++◌, length, refl, sym, ap, ◌∙◌, subst, arith, Option, Some, None}
-use Rattle.std.specs.Prelude.{◌==◌, slice_index_or, if◌then◌else◌, IfSome, is_some}
+use Rattle.std.proofs.Common.{◌≡◌, ◌≢◌, ℕ, ◌+◌, ◌-◌, ◌*◌, ◌%◌, ◌<◌, ◌≤◌, inl, inr, Bool, true, false, List, [], ◌∷◌, ◌++◌, length, refl, sym, ap, ◌∙◌, subst, arith, Option, Some, None}
+use Rattle.std.specs.Prelude.{◌==◌, if◌then◌else◌, IfSome, is_some}
 use Rattle.std.proofs.lemmas.Bool.{cases_eq, eqb-true}
 use Rattle.std.proofs.lemmas.Option.{slice_get-get_or}
 use Rattle.clock_gate.specs.declared.act.Act.{Act}
-use Rattle.clock_gate.specs.declared.act.Act.TheVariants.{Load, Store, End}
+use Rattle.clock_gate.specs.declared.act.Act.TheVariants.{Load, Store}
 use Rattle.clock_gate.specs.declared.clock_row.ClockRow.{ClockRow}
 use Rattle.clock_gate.specs.declared.clock_row.Reading.{Reading}
 use Rattle.clock_gate.specs.declared.limits.TheConstants.{LAST_MOMENT, MOST_DRIFT, MOST_STORES, MOST_TRIES}
@@ -26,7 +26,7 @@ use Rattle.vmclock_page.specs.Host.{count_of}
 use Rattle.vmclock_page.specs.Counting.{page_number_of}
 use Rattle.status_machine.specs.declared.daemon.Daemon.{Daemon}
 use Rattle.status_machine.proofs.Fits.{daemon_step-fits, record_of-fits}
-use Rattle.shm_writer.specs.Publisher.{Publishing, stores, publishing_act}
+use Rattle.shm_writer.specs.Publisher.{Publishing}
 use Rattle.writer_reopen.specs.declared.order.Order.{Order}
 use Rattle.writer_reopen.specs.declared.polled.Polled.{Polled}
 use Rattle.writer_reopen.specs.declared.polled.Polled.TheVariants.{Published, Skipped, Stopped}
@@ -35,10 +35,9 @@ use Rattle.writer_reopen.specs.declared.stage.Stage.{Stage}
 use Rattle.writer_reopen.specs.declared.stage.Stage.TheVariants as stages
 use Rattle.writer_reopen.specs.declared.stage.Taken.{Taken}
 use Rattle.writer_reopen.specs.Causes.{IsSkipped, IsStopped, IsPublished}
-use Rattle.writer_reopen.specs.Poll.{AreRows, reading_at, row_with, sequence_seen, poll_for, daemon_for, taken_for, storing_of}
-use Rattle.writer_reopen.specs.PollMachine.{Polling, new_polling, looking_by, stage_progress, polling_act, polling_given, polling_end, stage_seen, stage_given, IsUnseen, IsUpdate, IsPollStage, OrderFits, StageFits}
+use Rattle.writer_reopen.specs.Poll.{AreRows, reading_at, row_with, sequence_seen, poll_for, daemon_for, taken_for}
+use Rattle.writer_reopen.specs.PollMachine.{Polling, new_polling, looking_by, stage_progress, polling_act, polling_given, polling_end, stage_seen, stage_given, IsUnseen, IsPollStage, OrderFits, StageFits}
 use Rattle.writer_reopen.specs.Progress.{act_of}
-use Rattle.writer_reopen.proofs.Cut.{act_before_stop, act_at_stop}
 use Rattle.writer_reopen.proofs.Causes.{skipped, stopped, published}
 use Rattle.writer_reopen.proofs.Polls.{stage_nearer}
 use Rattle.segment_run.specs.SegmentRun.{SegmentRun, header_shown, number_shown, number_at}

@@ -20,7 +20,7 @@ use Rattle.segment_layout.specs.History.{Begun, last_store}
 use Rattle.segment_layout.proofs.Back.{record_words_good}
 use Rattle.vmclock_page.specs.Host.{count_of}
 use Rattle.vmclock_page.specs.Counting.{page_number_of}
-use Rattle.segment_run.specs.SegmentRun.{SegmentRun, headed, opened_update, moved_once, one_store_more, header_shown, number_shown, number_at, published_at}
+use Rattle.segment_run.specs.SegmentRun.{SegmentRun, headed, moved_once, one_store_more, header_shown, number_shown, number_at, published_at}
 use Rattle.segment_run.specs.ShowsSegment.{IsSegment, IsSegmentLater}
 use Rattle.segment_run.proofs.SegmentEnded.{headed_is, headed_later, in_update_is, in_update_later, after_update, after_update_is, after_update_later, after_update_header}
 use Rattle.segment_run.proofs.SegmentStore.{StepShows, header_stored, stores_none, stores_made, word_step}
@@ -29,7 +29,7 @@ use Rattle.segment_run.proofs.SegmentLater.{later_same}
 use Rattle.segment_views.specs.declared.setup.Setup.{Setup}
 use Rattle.segment_views.specs.Views.{DaemonPart, HostPart, SeatView, no_update, point_of, point_after, segment_try_of}
 use Rattle.segment_views.specs.Rule.{SharedState, HandFits, ShowsDaemonPart, EntryFits, EntriesFit, MeetsRule}
-use Rattle.segment_views.specs.Steps.{KeepsRule, daemon_state, daemon_view, TellsDaemonPart, HasMagic, MayMagic, with_magic, MayHead, with_head, MayOdd, begun_segment, update_begun, MayFill, filled_segment, update_filled, MayEven, update_ended, MayMoveOdd, move_begun, MayMoveEven, move_ended, stored}
+use Rattle.segment_views.specs.Steps.{KeepsRule, daemon_state, daemon_view, TellsDaemonPart, HasMagic, MayMagic, with_magic, MayHead, with_head, MayOdd, update_begun, MayFill, filled_segment, update_filled, MayEven, update_ended, MayMoveOdd, move_begun, MayMoveEven, move_ended, stored}
 use Rattle.segment_views.proofs.Lists.{begins_self, entries-snoc, entries_at, segment_try-snoc, page_try-snoc}
 use Rattle.segment_views.proofs.Frames.{Grows, seats_after, seen_grows, segment_try_grows, word_else, word_here, world_else}
 
