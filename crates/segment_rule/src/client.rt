@@ -80,6 +80,15 @@ impl ClientSeat {
         self.tries = tries;
     }
 
+    // A part of this seat: what it has seen, without its calls.
+    pub(crate) fn part(&mut self, table: &HostTable) -> Place
+        requires table { self.old.table ≡ table.now.id }
+        ensures part { (result.table_id ≡ self.old.table) × (result.me ≡ (part_of self.old.view, [])) }
+        ensures same { self.new ≡ self.old }
+    {
+        table.table.shared.split_seat::<CutClient>(&mut self.seat)
+    }
+
     /// A seat for one client more, which has seen what this one has, and has no calls yet.
     ///
     /// The first seat alone is split, once for each further client of the table. It costs one load of word 0.
@@ -95,7 +104,7 @@ impl ClientSeat {
         ensures counted { self.new.splits ≡ self.old.splits + 1 }
         ensures first { (self.new.is_first ≡ true) × (self.new.table ≡ self.old.table) × (self.new.in_hand ≡ false) }
     {
-        let seat = table.table.shared.split_seat::<CutClient>(&mut self.seat);
+        let seat = self.part(table);
         self.splits += 1;
         ClientSeat::resting(seat, self.support, false)
     }
