@@ -3,12 +3,12 @@ use Rattle.std.proofs.Common.{◌≡◌, ◌≢◌, ℕ, ◌+◌, ◌-◌, ◌%�
 use Rattle.std.specs.Prelude.{slice_index, ◌==◌, nat_lt}
 use Rattle.std.proofs.lemmas.Bool.{eqb-true, eqb-false, cases_eq}
 use Rattle.std.proofs.lemmas.Bool.Decides.{nat_tests}
-use Rattle.atomic_table.specs.Table.{Me, keeps, Allows, Splits}
+use Rattle.atomic_table.specs.Table.{Me, keeps, Allows, Splits, Joins}
 use Rattle.segment_views.specs.declared.setup.Setup.{Setup}
 use Rattle.segment_views.specs.Views.{SeatView}
 use Rattle.segment_views.specs.Rule.{SharedState}
 use Rattle.segment_views.specs.Steps.{May, StateAfter, ViewAfter, Tells, KeepsRule, MayLoad, MayPage, same_state, clock_view, TellsClock, front_view, TellsFront, plain_view, TellsData, TellsZero, TellsPlain, page_view, TellsPage}
-use Rattle.segment_views.specs.Seats.{KeepsSplit}
+use Rattle.segment_views.specs.Seats.{KeepsSplit, KeepsJoin}
 use Rattle.segment_views.proofs.LoadLaws.{clock_law, zero_law, front_law, data_law, page_law, marker_law, plain_law}
 use Rattle.generation_word.specs.Header.{generation_in}
 use Rattle.segment_layout.specs.declared.publication.Publication.{Publication}
@@ -54,6 +54,9 @@ module _ {S : Type 0} (c : Setup) where
 
   pub splits : (may : SeatView → Type 0) (core : SharedState → ℕ → SharedState) (left right : SeatView → SeatView) (id : ℕ) (v : SeatView) → KeepsSplit may core left right → may v → Splits (Ruled {S = S} c) id v (left v) (right v)
   splits may core left right id v law ok state ruled at = (core ruled.0 (length state.views), law c ruled.0 state.words state.views id v ruled.1 at ok)
+
+  pub joins : (both : SeatView → SeatView → SeatView) (gone : SeatView) (id : ℕ) (v : SeatView) (other : ℕ) (w : SeatView) → KeepsJoin both gone → Joins (Ruled {S = S} c) id v other w (both v w) gone
+  joins both gone id v other w law state ruled at apart there = (ruled.0, law c ruled.0 state.words state.views id v other w ruled.1 at apart there)
 
   module _ (word slots id : ℕ) (g : ℕ → ℕ) (me : Me S SeatView) where
     abbrev pub Goal : (ℕ → SeatView → Type 0) → Type 0

@@ -39,6 +39,7 @@ pub record HostAt (row : HostRow) (v : SeatView) (m : Host) (w : SeatView) : Typ
 
 -- what a row begins with
 pub record MayHostRow (row : HostRow) (v : SeatView) : Type 0 where
+  pub seated : v.seated ≡ true
   pub may : MayDoRow row v
   pub page : IsRowOf v.setup.page row
   pub stores : v.host_part.stores ≡ 0
@@ -254,7 +255,7 @@ host_begins row v m new b is =
     none_counted Disrupt count = refl
 
 pub may_row : (row : HostRow) (v : SeatView) (m : Host) → IsBetweenRows m v → m.count % 2 ≡ 0 → IsRowOf v.setup.page row → MayDoRow row v → MayHostRow row v
-may_row row v m b even page may = record { may = may; page = page; stores = b.stores; even = ap (λ (n : ℕ). n % 2) (sym b.count) ∙ even; pages = b.pages }
+may_row row v m b even page may = record { seated = b.seated; may = may; page = page; stores = b.stores; even = ap (λ (n : ℕ). n % 2) (sym b.count) ∙ even; pages = b.pages }
 
 all_made : (row : HostRow) (constants count made : ℕ) → made ≤ length (row_stores constants count row) → ((word value : ℕ) → slice_index_or (row_stores constants count row) made End ≡ Store word value → ⊥) → made ≡ length (row_stores constants count row)
 all_made (Clock number) constants count zero few none = absurd (none 23 number refl)
@@ -273,7 +274,7 @@ row_rests : (row : HostRow) (v : SeatView) (m : Host) (made : ℕ) → MayHostRo
     → (view_at row made v ≡ record v { host_part = part_after row v.host_part }) × IsBetweenRows m (record v { host_part = part_after row v.host_part })
 row_rests (Clock number) v m made b start act count all = (
   ap (λ (n : ℕ). view_at (Clock number) n v) all,
-  record { stores = b.stores; start = start; ended = act; count = count; pages = b.pages },
+  record { seated = b.seated; stores = b.stores; start = start; ended = act; count = count; pages = b.pages },
 )
 row_rests (Page words) v m made b start act count all =
     let has = has_page v.setup.page words b.page in
@@ -283,6 +284,7 @@ row_rests (Page words) v m made b start act count all =
     let pages : 2 * length v.host_part.pages ≡ 2 * (length (v.host_part.pages ++ words ∷ []) - 1) = omega (arith, more) in (
       ap (λ (n : ℕ). view_at (Page words) n v) all,
       record {
+        seated = b.seated;
         stores = refl;
         start = start;
         ended = act;
@@ -290,7 +292,7 @@ row_rests (Page words) v m made b start act count all =
         pages = λ _. omega (arith, more);
       },
     )
-row_rests Disrupt v m made b start act count all = (refl, record { stores = b.stores; start = start; ended = act; count = count; pages = b.pages })
+row_rests Disrupt v m made b start act count all = (refl, record { seated = b.seated; stores = b.stores; start = start; ended = act; count = count; pages = b.pages })
 
 lengths : (row : HostRow) (constants count : ℕ) → length (row_stores constants count row) ≡ length (row_stores constants 0 row)
 lengths (Clock number) constants count = refl
@@ -319,7 +321,7 @@ first_page (Some words) has = omega arith
 pub first_rests : (c : Setup) (v : SeatView) → v ≡ without_daemon (opener c) → IfSome c.page StartsEven → IsBetweenRows (new_host c.page) v
 first_rests c v is starts =
     subst (λ (x : SeatView). IsBetweenRows (new_host c.page) x) (sym is)
-    (record { stores = refl; start = refl; ended = refl; count = first_count c.page starts; pages = first_page c.page })
+    (record { seated = refl; stores = refl; start = refl; ended = refl; count = first_count c.page starts; pages = first_page c.page })
 
 start_even : (p : Option (List ℕ)) → IsHost (new_host p) → IfSome p StartsEven
 start_even None host = tt

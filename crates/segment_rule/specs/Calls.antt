@@ -8,7 +8,7 @@ use Rattle.clock_gate.specs.Acts.{Wanted, replayed}
 use Rattle.interval_now.specs.declared.answers.Answer.{Answer}
 use Rattle.interval_now.specs.declared.stage.Stage.{Stage}
 use Rattle.interval_now.specs.declared.stage.Stage.TheVariants.{Segment, Clock, Page, Done}
-use Rattle.interval_now.specs.Call.{Call, IsCall, Agrees, reading_taken, started_call, act_of, given}
+use Rattle.interval_now.specs.Call.{Call, IsCall, Agrees, reading_taken, started_call, act_of, given, steps_left}
 use Rattle.interval_now.specs.CallRun.{CallCameTo}
 use Rattle.atomic_table.specs.Seated.{TableId}
 use Rattle.segment_views.specs.Views.{SeatView}
@@ -48,13 +48,26 @@ pub record Nows (clock : List ClockRow) (tries : ℕ) (answer : Answer) (v : Sea
   pub came : CallCameTo clock tries (is_some v.setup.page) (touches_of v.steps) answer
   pub ran : IsSoundCall v
 
+-- a client's seat: its table, and what it has seen; whether it is the first one, and how often it was split; and of the call in hand, where
+-- there is one, whether it has made a step, its tries, the reading that it has taken, and the most steps that it still takes
 pub record ClientState : Type 0 where
   pub table : TableId
   pub view : SeatView
+  pub is_first : Bool
+  pub splits : ℕ
   pub in_hand : Bool
   pub begun : Bool
   pub tries : ℕ
   pub reading : Option Reading
+  pub left : ℕ
 
-abbrev pub client_state : TableId → SeatView → Bool → Bool → ℕ → Stage → ClientState
-client_state t v h b n s = record { table = t; view = v; in_hand = h; begun = b; tries = n; reading = reading_taken s }
+abbrev pub client_state : TableId → SeatView → (is_first : Bool) → (splits : ℕ) → (in_hand begun : Bool) → (tries : ℕ) → Call → ClientState
+client_state t v f k h b n call =
+    record { table = t; view = v; is_first = f; splits = k; in_hand = h; begun = b; tries = n; reading = reading_taken call.stage; left = steps_left call }
+
+-- it stays the same seat
+pub record IsSameSeat (old new : ClientState) : Type 0 where
+  pub table : new.table ≡ old.table
+  pub is_first : new.is_first ≡ old.is_first
+  pub splits : new.splits ≡ old.splits
+  pub setup : new.view.setup ≡ old.view.setup

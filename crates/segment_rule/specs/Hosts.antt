@@ -70,6 +70,7 @@ part_after Disrupt h = h
 
 -- between two rows: nothing is in hand, and the machine's count is the page's
 pub record IsBetweenRows (m : Host) (v : SeatView) : Type 0 where
+  pub seated : v.seated ≡ true
   pub stores : v.host_part.stores ≡ 0
   pub start : m.start ≡ v.setup.page
   pub ended : act_of m ≡ End

@@ -1,4 +1,5 @@
 pub mod Ruled
+pub mod Settled
 pub mod Calls
 pub mod Opens
 pub mod Polls

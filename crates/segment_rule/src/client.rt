@@ -1,13 +1,14 @@
 // A client's calls, one word step at a time.
-ghost use Rattle.std.specs.Prelude.{◌≡◌, ℕ, ◌<◌, ◌≤◌, true, false, [], length, is_some, IfSome, IfNone};
-ghost use Rattle.clock_gate.specs.declared.limits.TheConstants.{MOST_HOST_ROWS, MOST_TRIES};
+ghost use Rattle.std.specs.Prelude.{◌≡◌, ℕ, ◌+◌, ◌<◌, ◌≤◌, true, false, [], length, is_some, None, IfSome, IfNone};
+ghost use Rattle.clock_gate.specs.declared.limits.TheConstants.{MOST_HOST_ROWS, MOST_CLIENTS, MOST_TRIES};
 ghost use Rattle.clock_gate.specs.ClockRow.{IsClock};
+ghost use Rattle.segment_views.specs.Seats.{part_of};
 ghost use Rattle.segment_views.specs.Steps.{calls_of};
 ghost use Rattle.segment_rule.specs.Ruled.{TableView, MayLoadWord, TellsLoad};
 ghost use Rattle.interval_now.specs.Call.{Agrees};
-ghost use Rattle.segment_rule.specs.Calls.{ClientState, Nows};
+ghost use Rattle.segment_rule.specs.Calls.{ClientState, IsSameSeat, Nows};
 
-use crate::plays::{Begin, Load};
+use crate::plays::{Begin, CutClient, Load};
 use crate::table::{HostTable, Place};
 use clock_gate::{Act, ClockRow};
 use interval_now::{Answer, NowMachine};
@@ -18,6 +19,8 @@ use std::marker::Model;
 pub struct ClientSeat {
     seat: Place,
     machine: NowMachine,
+    is_first: bool,
+    splits: u32,
     in_hand: bool,
     begun: bool,
     tries: u16,
@@ -25,29 +28,34 @@ pub struct ClientSeat {
 }
 
 impl Model for ClientSeat {
-    ghost use Rattle.std.specs.Prelude.{◌≡◌, true, [], is_some};
+    ghost use Rattle.std.specs.Prelude.{◌≡◌, ◌≤◌, true, [], is_some};
+    ghost use Rattle.clock_gate.specs.declared.limits.TheConstants.{MOST_CLIENTS};
     ghost use Rattle.segment_rule.specs.Calls.{ClientState, client_state, Holds};
 
     ghost Value = { ClientState };
 
-    ghost view = { λ s. client_state s.seat.table_id s.seat.me.0 s.in_hand s.begun s.tries s.machine.stage };
+    ghost view = { λ s. client_state s.seat.table_id s.seat.me.0 s.is_first s.splits s.in_hand s.begun s.tries s.machine };
 
-    ghost invariant = { λ s. (s.seat.me.1 ≡ []) × (s.seat.me.0.seated ≡ true) × (s.support ≡ is_some s.seat.me.0.setup.page) × Holds s.in_hand s.begun s.tries s.machine s.seat.me.0 };
+    ghost invariant = { λ s. (s.seat.me.1 ≡ []) × (s.seat.me.0.seated ≡ true) × (s.support ≡ is_some s.seat.me.0.setup.page) × Holds s.in_hand s.begun s.tries s.machine s.seat.me.0 × (s.seat.me.0.setup.clients ≤ MOST_CLIENTS) };
 }
 
 impl ClientSeat {
-    pub(crate) fn resting(seat: Place, support: bool) -> ClientSeat
+    pub(crate) fn resting(seat: Place, support: bool, is_first: bool) -> ClientSeat
         requires slots { seat.me.1 ≡ [] }
         requires seated { seat.me.0.seated ≡ true }
         requires support { support ≡ is_some seat.me.0.setup.page }
         requires rows { seat.me.0.setup.rows ≤ MOST_HOST_ROWS }
+        requires clients { seat.me.0.setup.clients ≤ MOST_CLIENTS }
         ensures table { result.table ≡ seat.table_id }
         ensures view { result.view ≡ seat.me.0 }
+        ensures first { (result.is_first ≡ is_first) × (result.splits ≡ 0) }
         ensures hand { result.in_hand ≡ false }
     {
         ClientSeat {
             seat,
             machine: NowMachine::new(1, support),
+            is_first,
+            splits: 0,
             in_hand: false,
             begun: false,
             tries: 1,
@@ -62,12 +70,64 @@ impl ClientSeat {
         requires some { 1 ≤ tries }
         requires most { tries ≤ MOST_TRIES }
         ensures hand { (self.new.in_hand ≡ true) × (self.new.begun ≡ false) × (self.new.tries ≡ tries) }
-        ensures same { (self.new.view ≡ self.old.view) × (self.new.table ≡ self.old.table) }
+        ensures view { self.new.view ≡ self.old.view }
+        ensures same { IsSameSeat self.old self.new }
+        ensures unread { self.new.reading ≡ None }
     {
         self.machine = NowMachine::new(tries, self.support);
         self.in_hand = true;
         self.begun = false;
         self.tries = tries;
+    }
+
+    // A part of this seat: what it has seen, without its calls.
+    pub(crate) fn part(&mut self, table: &HostTable) -> Place
+        requires table { self.old.table ≡ table.now.id }
+        ensures part { (result.table_id ≡ self.old.table) × (result.me ≡ (part_of self.old.view, [])) }
+        ensures same { self.new ≡ self.old }
+    {
+        table.table.shared.split_seat::<CutClient>(&mut self.seat)
+    }
+
+    /// A seat for one client more, which has seen what this one has, and has no calls yet.
+    ///
+    /// The first seat alone is split, once for each further client of the table. It costs one load of word 0.
+    pub fn split(&mut self, table: &HostTable) -> ClientSeat
+        requires table { self.old.table ≡ table.now.id }
+        requires first { self.old.is_first ≡ true }
+        requires few { self.old.splits + 1 < self.old.view.setup.clients }
+        requires hand { self.old.in_hand ≡ false }
+        ensures table { result.table ≡ self.old.table }
+        ensures seen { result.view ≡ part_of self.old.view }
+        ensures further { (result.is_first ≡ false) × (result.in_hand ≡ false) }
+        ensures view { self.new.view ≡ self.old.view }
+        ensures counted { self.new.splits ≡ self.old.splits + 1 }
+        ensures first { (self.new.is_first ≡ true) × (self.new.table ≡ self.old.table) × (self.new.in_hand ≡ false) }
+    {
+        let seat = self.part(table);
+        self.splits += 1;
+        ClientSeat::resting(seat, self.support, false)
+    }
+
+    /// Makes a whole call in at most so many tries, and answers it.
+    pub fn now(&mut self, table: &HostTable, clock: &[ClockRow], tries: u16) -> Answer
+        requires table { self.old.table ≡ table.now.id }
+        requires clock { length clock.now ≡ self.old.view.setup.rows }
+        requires moments { IsClock clock.now }
+        requires hand { self.old.in_hand ≡ false }
+        requires some { 1 ≤ tries }
+        requires most { tries ≤ MOST_TRIES }
+        ensures same { IsSameSeat self.old self.new }
+        ensures hand { self.new.in_hand ≡ false }
+        ensures answer { Nows clock.now tries result self.new.view }
+        ensures calls { self.new.view.calls ≡ calls_of self.old.view }
+    {
+        self.begin(table, tries);
+        'calling: loop {
+            if let Some(answer) = self.step(table, clock) {
+                return answer;
+            }
+        }
     }
 
     /// Whether a call is in hand.
@@ -82,11 +142,13 @@ impl ClientSeat {
         requires clock { length clock.now ≡ self.old.view.setup.rows }
         requires moments { IsClock clock.now }
         requires hand { (self.old.in_hand ≡ true) × (self.old.begun ≡ false) }
-        ensures table { (self.new.table ≡ self.old.table) × (self.new.tries ≡ self.old.tries) }
+        ensures same { IsSameSeat self.old self.new }
+        ensures tries { self.new.tries ≡ self.old.tries }
         ensures going { IfNone result ((self.new.in_hand ≡ true) × (self.new.begun ≡ true)) }
+        ensures nearer { IfNone result (self.new.left < self.old.left) }
+        ensures reading { IfNone result (Agrees clock.now self.new.reading) }
         ensures ended { IfSome result (λ a. (self.new.in_hand ≡ false) × Nows clock.now self.old.tries a self.new.view) }
         ensures calls { self.new.view.calls ≡ calls_of self.old.view }
-        ensures setup { self.new.view.setup ≡ self.old.view.setup }
     {
         let value = table.table.shared.load::<Begin>(&mut self.seat, 1);
         self.machine.give(value, clock);
@@ -102,11 +164,13 @@ impl ClientSeat {
         requires moments { IsClock clock.now }
         requires reading { Agrees clock.now self.old.reading }
         requires hand { (self.old.in_hand ≡ true) × (self.old.begun ≡ true) }
-        ensures table { (self.new.table ≡ self.old.table) × (self.new.tries ≡ self.old.tries) }
+        ensures same { IsSameSeat self.old self.new }
+        ensures tries { self.new.tries ≡ self.old.tries }
         ensures going { IfNone result ((self.new.in_hand ≡ true) × (self.new.begun ≡ true)) }
+        ensures nearer { IfNone result (self.new.left < self.old.left) }
+        ensures reading { IfNone result (Agrees clock.now self.new.reading) }
         ensures ended { IfSome result (λ a. (self.new.in_hand ≡ false) × Nows clock.now self.old.tries a self.new.view) }
         ensures calls { self.new.view.calls ≡ self.old.view.calls }
-        ensures setup { self.new.view.setup ≡ self.old.view.setup }
     {
         let Act::Load(word) = self.machine.next() else {
             return None;
@@ -128,12 +192,14 @@ impl ClientSeat {
         requires moments { IsClock clock.now }
         requires reading { Agrees clock.now self.old.reading }
         requires hand { self.old.in_hand ≡ true }
-        ensures table { (self.new.table ≡ self.old.table) × (self.new.tries ≡ self.old.tries) }
+        ensures same { IsSameSeat self.old self.new }
+        ensures tries { self.new.tries ≡ self.old.tries }
         ensures going { IfNone result ((self.new.in_hand ≡ true) × (self.new.begun ≡ true)) }
+        ensures nearer { IfNone result (self.new.left < self.old.left) }
+        ensures reading { IfNone result (Agrees clock.now self.new.reading) }
         ensures ended { IfSome result (λ a. (self.new.in_hand ≡ false) × Nows clock.now self.old.tries a self.new.view) }
         ensures first { self.old.begun ≡ false → self.new.view.calls ≡ calls_of self.old.view }
         ensures later { self.old.begun ≡ true → self.new.view.calls ≡ self.old.view.calls }
-        ensures setup { self.new.view.setup ≡ self.old.view.setup }
     {
         if self.begun {
             self.later(table, clock)

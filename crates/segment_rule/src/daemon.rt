@@ -5,11 +5,14 @@ ghost use Rattle.status_machine.specs.Poll.{BaseFits};
 ghost use Rattle.writer_reopen.specs.Opening.{opening_act, opening_end};
 ghost use Rattle.writer_reopen.specs.Poll.{AreRows};
 ghost use Rattle.writer_reopen.specs.PollMachine.{new_polling, polling_act, polling_end, PolledFits};
+ghost use Rattle.segment_views.specs.Seats.{daemon_part};
 ghost use Rattle.segment_rule.specs.Ruled.{MayLoadWord, TellsLoad};
+ghost use Rattle.segment_rule.specs.Settled.{HasLearned};
 ghost use Rattle.segment_rule.specs.Opens.{DaemonState, MayOpen, TellsOpen, IsDaemonPart, OpenAt, generation_after, Reopens};
 ghost use Rattle.segment_rule.specs.Polls.{MayPoll, TellsPoll, order_for, MayBegin, Polls, next_generation, was_skipped, stays_open, OpenAfter, SupportAfter};
 
-use crate::plays::{Announced, Begin, Load, OpenStore, PollStore};
+use crate::plays::{Announced, Begin, CutDaemonPart, Load, OpenStore, PollStore};
+use crate::settle::learn;
 use crate::table::{HostTable, Place};
 use clock_gate::{Act, ClockRow};
 use generation_word::Layout;
@@ -102,6 +105,26 @@ fn stays_open(stop: Option<u8>, polled: &Polled) -> bool
 }
 
 impl DaemonSeat {
+    // A part of this seat, which has seen all that was published.
+    pub(crate) fn part(&mut self, table: &HostTable) -> Place
+        requires table { self.old.table ≡ table.now.id }
+        ensures part { (result.table_id ≡ self.old.table) × (result.me ≡ (daemon_part self.old.view, [])) }
+        ensures same { self.new ≡ self.old }
+    {
+        table.table.shared.split_seat::<CutDaemonPart>(&mut self.seat)
+    }
+
+    // Learns what a part of a client's seat has seen.
+    pub(crate) fn learn(&mut self, table: &HostTable, part: Place)
+        requires tables { (self.old.table ≡ table.now.id) × (part.table_id ≡ table.now.id) }
+        requires slots { part.me.1 ≡ [] }
+        ensures same { (self.new.table ≡ self.old.table) × (self.new.is_open ≡ self.old.is_open) }
+        ensures learned { HasLearned self.old.view part.me.0 self.new.view }
+        ensures daemon { self.old.view.is_daemon ≡ true }
+    {
+        learn(table, &mut self.seat, part);
+    }
+
     pub(crate) fn resting(seat: Place, layout: Layout) -> DaemonSeat
         requires slots { seat.me.1 ≡ [] }
         requires daemon { seat.me.0.is_daemon ≡ true }

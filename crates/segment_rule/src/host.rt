@@ -2,9 +2,11 @@ ghost use Rattle.std.specs.Prelude.{◌≡◌, ◌+◌, ◌<◌, ◌≤◌, [], 
 ghost use Rattle.clock_gate.specs.declared.limits.TheConstants.{MOST_HOST_ROWS};
 ghost use Rattle.vmclock_page.specs.Rows.{IsRowOf, IsPageRowAfter};
 ghost use Rattle.segment_rule.specs.Ruled.{SeatState};
+ghost use Rattle.segment_rule.specs.Settled.{HasLearned};
 ghost use Rattle.segment_rule.specs.Hosts.{MayHost, TellsHost, row_added, page_added, words_of_row, MayDoRow, part_after, IsBetweenRows};
 
 use crate::plays::{AnnouncedPage, HostStore};
+use crate::settle::learn;
 use crate::table::{HostTable, Place};
 use clock_gate::{Act, HostRow};
 use std::marker::{Brand, Model};
@@ -81,6 +83,17 @@ fn do_row(table: &HostTable, seat: &mut Place, machine: HostMachine, row: &HostR
 }
 
 impl HostSeat {
+    // Learns what a part of another seat has seen.
+    pub(crate) fn learn(&mut self, table: &HostTable, part: Place)
+        requires tables { (self.old.table ≡ table.now.id) × (part.table_id ≡ table.now.id) }
+        requires slots { part.me.1 ≡ [] }
+        ensures table { self.new.table ≡ self.old.table }
+        ensures learned { HasLearned self.old.view part.me.0 self.new.view }
+        ensures host { (self.old.view.is_host ≡ true) × (self.old.view.host_part.stores ≡ 0) }
+    {
+        learn(table, &mut self.seat, part);
+    }
+
     pub(crate) fn resting(seat: Place, machine: HostMachine) -> HostSeat
         requires slots { seat.me.1 ≡ [] }
         requires host { seat.me.0.is_host ≡ true }

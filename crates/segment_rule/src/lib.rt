@@ -10,6 +10,7 @@ mod client;
 mod daemon;
 mod host;
 mod plays;
+mod settle;
 mod table;
 
 pub use client::ClientSeat;

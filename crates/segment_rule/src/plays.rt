@@ -1,5 +1,5 @@
 // The rule of the table, and what each kind of step tells its caller.
-use atomic_table::{Play, Split, TableRule};
+use atomic_table::{Join, Play, Split, TableRule};
 use segment_views::{Setup, View};
 use std::marker::{Brand, PhantomData};
 
@@ -55,6 +55,49 @@ impl Split<View> for CutDaemon {
     ghost left = { without_daemon };
 
     ghost right = { without_host };
+}
+
+// A further client's seat is cut off the first one.
+pub struct CutClient;
+
+impl Split<View> for CutClient {
+    ghost use Rattle.segment_views.specs.Seats.{whole_view, part_of};
+
+    ghost left = { whole_view };
+
+    ghost right = { part_of };
+}
+
+// A part of the daemon's seat, which has seen all that was published.
+pub struct CutDaemonPart;
+
+impl Split<View> for CutDaemonPart {
+    ghost use Rattle.segment_views.specs.Seats.{whole_view, daemon_part};
+
+    ghost left = { whole_view };
+
+    ghost right = { daemon_part };
+}
+
+// A part is joined into a seat.
+pub struct Learn;
+
+impl Join<View> for Learn {
+    ghost use Rattle.segment_views.specs.Seats.{taught_by, spent};
+
+    ghost both = { taught_by };
+
+    ghost spent = { spent };
+}
+
+// A load that tells what was learned.
+pub struct Learned;
+
+impl Play<(), View> for Learned {
+    ghost use Rattle.segment_rule.specs.Ruled.{told_by};
+    ghost use Rattle.segment_rule.specs.Settled.{TellsLearned};
+
+    ghost then = { told_by TellsLearned };
 }
 
 // A store of an opening.

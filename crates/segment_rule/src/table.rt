@@ -104,7 +104,7 @@ impl HostTable {
         ensures table { IfOk result (λ t. t.0.setup ≡ record { layout = layout; image = image.now; page = page; rows = rows; clients = clients }) }
         ensures host { IfOk result (λ t. (t.1.table ≡ t.0.id) × (t.1.view ≡ without_daemon (opener t.0.setup))) }
         ensures daemon { IfOk result (λ t. (t.2.table ≡ t.0.id) × (t.2.view ≡ without_host (without_host (opener t.0.setup))) × (t.2.is_open ≡ false)) }
-        ensures client { IfOk result (λ t. (t.3.table ≡ t.0.id) × (t.3.view ≡ without_daemon (without_host (opener t.0.setup))) × (t.3.in_hand ≡ false)) }
+        ensures client { IfOk result (λ t. (t.3.table ≡ t.0.id) × (t.3.view ≡ without_daemon (without_host (opener t.0.setup))) × (t.3.in_hand ≡ false) × (t.3.is_first ≡ true) × (t.3.splits ≡ 0)) }
     {
         let host = HostMachine::new(page);
         let setup = Setup {
@@ -124,11 +124,12 @@ impl HostTable {
     ) -> Result<(HostTable, HostSeat, DaemonSeat, ClientSeat), AllocError>
         requires setup { IsSetup setup.now }
         requires rows { setup.now.rows ≤ MOST_HOST_ROWS }
+        requires clients { setup.now.clients ≤ MOST_CLIENTS }
         requires machine { machine ≡ new_host setup.now.page }
         ensures table { IfOk result (λ t. t.0.setup ≡ setup.now) }
         ensures host { IfOk result (λ t. (t.1.table ≡ t.0.id) × (t.1.view ≡ without_daemon (opener t.0.setup))) }
         ensures daemon { IfOk result (λ t. (t.2.table ≡ t.0.id) × (t.2.view ≡ without_host (without_host (opener t.0.setup))) × (t.2.is_open ≡ false)) }
-        ensures client { IfOk result (λ t. (t.3.table ≡ t.0.id) × (t.3.view ≡ without_daemon (without_host (opener t.0.setup))) × (t.3.in_hand ≡ false)) }
+        ensures client { IfOk result (λ t. (t.3.table ≡ t.0.id) × (t.3.view ≡ without_daemon (without_host (opener t.0.setup))) × (t.3.in_hand ≡ false) × (t.3.is_first ≡ true) × (t.3.splits ≡ 0)) }
     {
         let page = page_words(&setup.page);
         let words = opening(&setup.image, &page);
@@ -147,7 +148,7 @@ impl HostTable {
             },
             HostSeat::resting(host, machine),
             DaemonSeat::resting(daemon, setup.layout),
-            ClientSeat::resting(first, support),
+            ClientSeat::resting(first, support, true),
         ))
     }
 
