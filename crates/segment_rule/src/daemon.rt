@@ -111,7 +111,10 @@ impl DaemonSeat {
         ensures part { (result.table_id ≡ self.old.table) × (result.me ≡ (daemon_part self.old.view, [])) }
         ensures same { self.new ≡ self.old }
     {
-        table.table.shared.split_seat::<CutDaemonPart>(&mut self.seat)
+        table
+            .table
+            .shared
+            .split_seat::<CutDaemonPart>(&mut self.seat)
     }
 
     // Learns what a part of a client's seat has seen.
