@@ -37,6 +37,8 @@ use Rattle.clock_gate.specs.Acts.{Touch, Wanted, replayed}
 use Rattle.segment_views.specs.Steps.{TellsFront, TellsZero, HasMagic, with_magic, with_head, move_begun, move_ended, stored, calls_of}
 use Rattle.segment_views.specs.Shown.{touches_of, IsSoundCall, PointsFollow, AddsStore}
 use Rattle.segment_rule.specs.Ruled.{Either, TellsLoad}
+use Rattle.writer_reopen.proofs.Found as plans
+use Rattle.writer_reopen.proofs.Found.{loads_of, steps_by_found}
 use Rattle.segment_rule.proofs.Stepping as stepping
 use Rattle.segment_views.specs.Views.{DaemonPart, SeatView, point_of}
 use Rattle.generation_word.proofs.HeaderLaws.{one_number}
@@ -48,111 +50,21 @@ use Rattle.segment_rule.specs.Opens.{OpenAt, generation_by, generation_after, hi
 
 -- ---- the steps of an opening, by what it found
 
+-- what is found, under the number that the segment shows
+abbrev pub numbered : ℕ → Start → Start
+numbered generation Fresh = Fresh
+numbered generation (Torn g) = Torn generation
+numbered generation (Kept g rec) = Kept generation rec
+
 abbrev pub steps_for : Layout → (old : Bool) → ℕ → Start → List Act
-steps_for layout old generation Fresh = Load 0 ∷ Load 1 ∷ fresh_steps layout
-steps_for layout old generation (Torn g) = Load 0 ∷ Load 1 ∷ torn_steps old generation
-steps_for layout old generation (Kept g rec) = Load 0 ∷ Load 1 ∷ kept_steps old generation
-
-same_load : (a b : ℕ) → Load a ≡ Load b → a ≡ b
-same_load a b e = cc
-
-same_store : (a b m n : ℕ) → Store a m ≡ Store b n → (a ≡ b) × (m ≡ n)
-same_store a b m n e = (cc, cc)
-
--- how many loads come first
-abbrev pub loads_of : Start → ℕ
-loads_of Fresh = 2
-loads_of (Torn g) = 2
-loads_of (Kept g rec) = 10
-
-load_fresh : (layout : Layout) (k word : ℕ) → slice_index_or (Load 0 ∷ Load 1 ∷ fresh_steps layout) k End ≡ Load word → (word ≡ k) × (k < 2)
-load_fresh layout zero word e = (sym (same_load 0 word e), omega arith)
-load_fresh layout (suc zero) word e = (sym (same_load 1 word e), omega arith)
-load_fresh layout (suc (suc zero)) word e = absurd (cc e)
-load_fresh layout (suc (suc (suc zero))) word e = absurd (cc e)
-load_fresh layout (suc (suc (suc (suc k)))) word e = absurd (cc e)
-
-load_torn : (old : Bool) (generation k word : ℕ) → slice_index_or (Load 0 ∷ Load 1 ∷ torn_steps old generation) k End ≡ Load word → (word ≡ k) × (k < 2)
-load_torn old generation zero word e = (sym (same_load 0 word e), omega arith)
-load_torn old generation (suc zero) word e = (sym (same_load 1 word e), omega arith)
-load_torn true generation (suc (suc zero)) word e = absurd (cc e)
-load_torn true generation (suc (suc (suc k))) word e = absurd (cc e)
-load_torn false generation (suc (suc k)) word e = absurd (cc e)
-
-load_kept : (old : Bool) (generation k word : ℕ) → slice_index_or (Load 0 ∷ Load 1 ∷ kept_steps old generation) k End ≡ Load word → (word ≡ k) × (k < 10)
-load_kept old generation zero word e = (sym (same_load 0 word e), omega arith)
-load_kept old generation (suc zero) word e = (sym (same_load 1 word e), omega arith)
-load_kept old generation (suc (suc zero)) word e = (sym (same_load 2 word e), omega arith)
-load_kept old generation (suc (suc (suc zero))) word e = (sym (same_load 3 word e), omega arith)
-load_kept old generation (suc (suc (suc (suc zero)))) word e = (sym (same_load 4 word e), omega arith)
-load_kept old generation (suc (suc (suc (suc (suc zero))))) word e = (sym (same_load 5 word e), omega arith)
-load_kept old generation (suc (suc (suc (suc (suc (suc zero)))))) word e = (sym (same_load 6 word e), omega arith)
-load_kept old generation (suc (suc (suc (suc (suc (suc (suc zero))))))) word e = (sym (same_load 7 word e), omega arith)
-load_kept old generation (suc (suc (suc (suc (suc (suc (suc (suc zero)))))))) word e = (sym (same_load 8 word e), omega arith)
-load_kept old generation (suc (suc (suc (suc (suc (suc (suc (suc (suc zero))))))))) word e = (sym (same_load 9 word e), omega arith)
-load_kept true generation (suc (suc (suc (suc (suc (suc (suc (suc (suc (suc zero)))))))))) word e = absurd (cc e)
-load_kept true generation (suc (suc (suc (suc (suc (suc (suc (suc (suc (suc (suc zero))))))))))) word e = absurd (cc e)
-load_kept true generation (suc (suc (suc (suc (suc (suc (suc (suc (suc (suc (suc (suc k)))))))))))) word e = absurd (cc e)
-load_kept false generation (suc (suc (suc (suc (suc (suc (suc (suc (suc (suc k)))))))))) word e = absurd (cc e)
+steps_for layout old generation start = plans.steps_for layout old (numbered generation start)
 
 pub load_for : (layout : Layout) (old : Bool) (generation : ℕ) (start : Start) (k word : ℕ) → slice_index_or (steps_for layout old generation start) k End ≡ Load word → (word ≡ k) × (k < loads_of start)
-load_for layout old generation Fresh k word e = load_fresh layout k word e
-load_for layout old generation (Torn g) k word e = load_torn old generation k word e
-load_for layout old generation (Kept g rec) k word e = load_kept old generation k word e
-
--- ---- the stores
-
-store_fresh : (layout : Layout) (k word value : ℕ) → slice_index_or (Load 0 ∷ Load 1 ∷ fresh_steps layout) k End ≡ Store word value
-    → ((k ≡ 2) × (word ≡ 0) × (value ≡ MAGIC)) ⊎ ((k ≡ 3) × (word ≡ 1) × (value ≡ word1_of layout 0))
-store_fresh layout zero word value e = absurd (cc e)
-store_fresh layout (suc zero) word value e = absurd (cc e)
-store_fresh layout (suc (suc zero)) word value e = let s = same_store 0 word MAGIC value e in inl (omega arith, sym s.0, sym s.1)
-store_fresh layout (suc (suc (suc zero))) word value e = let s = same_store 1 word (word1_of layout 0) value e in inr (omega arith, sym s.0, sym s.1)
-store_fresh layout (suc (suc (suc (suc k)))) word value e = absurd (cc e)
-
-store_torn : (old : Bool) (generation k word value : ℕ) → slice_index_or (Load 0 ∷ Load 1 ∷ torn_steps old generation) k End ≡ Store word value
-    → (old ≡ true) × (k ≡ 2) × (word ≡ 1) × (value ≡ word1_of Three generation)
-store_torn old generation zero word value e = absurd (cc e)
-store_torn old generation (suc zero) word value e = absurd (cc e)
-store_torn true generation (suc (suc zero)) word value e = let s = same_store 1 word (word1_of Three generation) value e in (refl, omega arith, sym s.0, sym s.1)
-store_torn true generation (suc (suc (suc k))) word value e = absurd (cc e)
-store_torn false generation (suc (suc k)) word value e = absurd (cc e)
-
-store_kept : (old : Bool) (generation k word value : ℕ) → slice_index_or (Load 0 ∷ Load 1 ∷ kept_steps old generation) k End ≡ Store word value
-    → (old ≡ true) × (word ≡ 1) × (((k ≡ 10) × (value ≡ word1_of Three (odd_after generation))) ⊎ ((k ≡ 11) × (value ≡ word1_of Three (even_after (period_of Three) generation))))
-store_kept old generation zero word value e = absurd (cc e)
-store_kept old generation (suc zero) word value e = absurd (cc e)
-store_kept old generation (suc (suc zero)) word value e = absurd (cc e)
-store_kept old generation (suc (suc (suc zero))) word value e = absurd (cc e)
-store_kept old generation (suc (suc (suc (suc zero)))) word value e = absurd (cc e)
-store_kept old generation (suc (suc (suc (suc (suc zero))))) word value e = absurd (cc e)
-store_kept old generation (suc (suc (suc (suc (suc (suc zero)))))) word value e = absurd (cc e)
-store_kept old generation (suc (suc (suc (suc (suc (suc (suc zero))))))) word value e = absurd (cc e)
-store_kept old generation (suc (suc (suc (suc (suc (suc (suc (suc zero)))))))) word value e = absurd (cc e)
-store_kept old generation (suc (suc (suc (suc (suc (suc (suc (suc (suc zero))))))))) word value e = absurd (cc e)
-store_kept true generation (suc (suc (suc (suc (suc (suc (suc (suc (suc (suc zero)))))))))) word value e =
-    let s = same_store 1 word (word1_of Three (odd_after generation)) value e in (refl, sym s.0, inl (omega arith, sym s.1))
-store_kept true generation (suc (suc (suc (suc (suc (suc (suc (suc (suc (suc (suc zero))))))))))) word value e =
-    let s = same_store 1 word (word1_of Three (even_after (period_of Three) generation)) value e in (refl, sym s.0, inr (omega arith, sym s.1))
-store_kept true generation (suc (suc (suc (suc (suc (suc (suc (suc (suc (suc (suc (suc k)))))))))))) word value e = absurd (cc e)
-store_kept false generation (suc (suc (suc (suc (suc (suc (suc (suc (suc (suc k)))))))))) word value e = absurd (cc e)
+load_for layout old generation Fresh k word e = plans.load_for layout old Fresh k word e
+load_for layout old generation (Torn g) k word e = plans.load_for layout old (Torn generation) k word e
+load_for layout old generation (Kept g rec) k word e = plans.load_for layout old (Kept generation rec) k word e
 
 -- ---- what was found
-
-fresh_are : (layout : Layout) (header : ℕ) → generation_in header ≡ 0 → later_steps layout header ≡ fresh_steps layout
-fresh_are layout header none = let test : (generation_in header == 0) ≡ true = grind (arith, nat_tests) in rw test refl
-
-torn_are : (layout : Layout) (header : ℕ) → generation_in header % 2 ≡ 1 → later_steps layout header ≡ torn_steps (is_old_header layout header) (generation_in header)
-torn_are layout header odd =
-    let positive : (generation_in header == 0) ≡ false = grind (arith, nat_tests) in
-    let test : (generation_in header % 2 == 1) ≡ true = grind (arith, nat_tests) in
-    rw (positive, test) refl
-
-kept_are : (layout : Layout) (header : ℕ) → 0 < generation_in header → generation_in header % 2 ≡ 0 → later_steps layout header ≡ kept_steps (is_old_header layout header) (generation_in header)
-kept_are layout header more even =
-    let positive : (generation_in header == 0) ≡ false = grind (arith, nat_tests) in
-    let test : (generation_in header % 2 == 1) ≡ false = grind (arith, nat_tests) in
-    rw (positive, test) refl
 
 -- what an opening finds in a segment, and what is then known of it
 abbrev pub Finds : SegmentRun → Start → Type 0
@@ -171,22 +83,16 @@ pub finds : (segment : SegmentRun) → Finds segment (start_found segment)
 finds segment = finds_by segment segment.is_writing (segment.position == 0) _ _ _ refl refl
 
 pub steps_are : (segment : SegmentRun) (start : Start) → IsSegment segment → Finds segment start → opening_steps segment.layout (header_shown segment) ≡ steps_for segment.layout (is_old_header segment.layout (header_shown segment)) (number_shown segment) start
-steps_are segment Fresh is found =
-    let tells : generation_in (header_shown segment) ≡ number_shown segment = number_told segment is in
-    ap (λ (acts : List Act). Load 0 ∷ Load 1 ∷ acts) (fresh_are segment.layout (header_shown segment) (tells ∙ found.2))
+steps_are segment Fresh is found = steps_by_found segment.layout (header_shown segment) Fresh (number_told segment is ∙ found.2)
 steps_are segment (Torn g) is found =
-    let tells : generation_in (header_shown segment) ≡ number_shown segment = number_told segment is in
     let number = number_in_update segment found in
     let even = number_even segment segment.position in
-    ap (λ (acts : List Act). Load 0 ∷ Load 1 ∷ acts)
-    (torn_are segment.layout (header_shown segment) (omega (arith, tells, number, even)) ∙ ap (torn_steps (is_old_header segment.layout (header_shown segment))) tells)
+    steps_by_found segment.layout (header_shown segment) (Torn (number_shown segment)) (number_told segment is, omega (arith, number, even))
 steps_are segment (Kept g rec) is found =
-    let tells : generation_in (header_shown segment) ≡ number_shown segment = number_told segment is in
     let number = number_at_rest segment found.0 in
     let even = number_even segment segment.position in
     let positive = number_positive segment segment.position found.1 in
-    ap (λ (acts : List Act). Load 0 ∷ Load 1 ∷ acts)
-    (kept_are segment.layout (header_shown segment) (omega (arith, tells, number, positive)) (omega (arith, tells, number, even)) ∙ ap (kept_steps (is_old_header segment.layout (header_shown segment))) tells)
+    steps_by_found segment.layout (header_shown segment) (Kept (number_shown segment) rec) (number_told segment is, omega (arith, number, even), omega (arith, number, positive))
 
 -- ---- the image of a segment
 
@@ -515,12 +421,12 @@ module _ (v w : SeatView) (own : IsDaemonPart v) (setup : w.setup ≡ v.setup) w
             (inl (ap (λ (o : DaemonPart). o.stored_magic) same)) (inr (ap (λ (o : DaemonPart). o.segment.position) same ∙ found.0)));
         daemon_part = (λ few. absurd (omega arith), λ e. absurd (omega arith), λ e. ap headed_of same);
       })
-      (store_fresh v.daemon_part.segment.layout k word value act)
+      (plans.store_for v.daemon_part.segment.layout old Fresh k word value act)
 
   at_torn : (word value k : ℕ) (h : ℕ) → Finds v.daemon_part.segment (Torn h) → DaemonPartAt (Torn h) k v.daemon_part w.daemon_part
       → slice_index_or (steps_for v.daemon_part.segment.layout (is_old_header v.daemon_part.segment.layout (header_shown v.daemon_part.segment)) (number_shown v.daemon_part.segment) (Torn h)) k End ≡ Store word value → StoreAt v w word value k (Torn h)
   at_torn word value k h found at act =
-      let t = store_torn (is_old_header v.daemon_part.segment.layout (header_shown v.daemon_part.segment)) (number_shown v.daemon_part.segment) k word value act in
+      let t = plans.store_for v.daemon_part.segment.layout (is_old_header v.daemon_part.segment.layout (header_shown v.daemon_part.segment)) (Torn (number_shown v.daemon_part.segment)) k word value act in
       let three = old_three v.daemon_part.segment.layout (header_shown v.daemon_part.segment) t.0 in
       let two = t.1 in
       let same : w.daemon_part ≡ v.daemon_part = at.0 (omega arith) in
@@ -536,7 +442,7 @@ module _ (v w : SeatView) (own : IsDaemonPart v) (setup : w.setup ≡ v.setup) w
   at_kept : (word value k : ℕ) (h : ℕ) (rec : RecordFields) → Finds v.daemon_part.segment (Kept h rec) → DaemonPartAt (Kept h rec) k v.daemon_part w.daemon_part
       → slice_index_or (steps_for v.daemon_part.segment.layout (is_old_header v.daemon_part.segment.layout (header_shown v.daemon_part.segment)) (number_shown v.daemon_part.segment) (Kept h rec)) k End ≡ Store word value → StoreAt v w word value k (Kept h rec)
   at_kept word value k h rec found at act =
-      let t = store_kept (is_old_header v.daemon_part.segment.layout (header_shown v.daemon_part.segment)) (number_shown v.daemon_part.segment) k word value act in
+      let t = plans.store_for v.daemon_part.segment.layout (is_old_header v.daemon_part.segment.layout (header_shown v.daemon_part.segment)) (Kept (number_shown v.daemon_part.segment) rec) k word value act in
       let three = old_three v.daemon_part.segment.layout (header_shown v.daemon_part.segment) t.0 in
       let rests = number_at_rest v.daemon_part.segment found.0 in
       let above = own.is.calm found.0 found.1 in
