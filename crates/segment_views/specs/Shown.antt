@@ -1,13 +1,15 @@
 -- What the steps of a call show, whatever machine made them.
-use Rattle.std.specs.Prelude.{◌≡◌, ◌⊎◌, ℕ, ◌≤◌, ◌==◌, ◌&&◌, ◌||◌, not, Bool, true, false, List, [], ◌∷◌, ◌++◌, if◌then◌else◌}
+use Rattle.std.specs.Prelude.{◌≡◌, ◌⊎◌, ℕ, ◌-◌, ◌*◌, ◌/◌, ◌<◌, ◌≤◌, length, slice_index_or, ◌==◌, ◌&&◌, ◌||◌, not, Bool, true, false, List, [], ◌∷◌, ◌++◌, if◌then◌else◌}
 use Rattle.clock_gate.specs.Acts.{Touch}
 use Rattle.segment_layout.specs.declared.publication.Publication.{Publication}
-use Rattle.segment_run.specs.SegmentRun.{header_shown}
+use Rattle.vmclock_page.specs.Host.{count_of}
+use Rattle.vmclock_page.specs.Counting.{page_number_of}
+use Rattle.segment_run.specs.SegmentRun.{header_shown, no_publication}
 use Rattle.segment_run.specs.ShowsSegment.{IsSegment, IsSegmentLater}
 use Rattle.segment_views.specs.declared.setup.Setup.{Setup}
-use Rattle.segment_views.specs.Views.{Begins, Step, SeatView, SegmentTry, PageTry, no_segment_try, no_page_try, point_of, point_after, after_step, page_after_step}
+use Rattle.segment_views.specs.Views.{Begins, Step, SeatView, SegmentTry, PageTry, no_segment_try, no_page_try, point_of, base_of, point_after, after_step, page_after_step}
 use Rattle.segment_views.specs.Rule.{count_word_at}
-use Rattle.segment_views.specs.Steps.{loaded, stored, calls_at, before_at, steps_at, segment_try_at, page_try_at, StandsPoint, IsWholeRead, IsWholePageRead}
+use Rattle.segment_views.specs.Steps.{loaded, stored, calls_at, before_at, steps_at, segment_try_at, page_try_at, ShowsPoint, IsWholeRead, IsWholePageRead}
 
 abbrev pub touches_of : List Step → List Touch
 touches_of [] = []
@@ -60,6 +62,29 @@ StandsPage c found p = found ≡ count_word_at c p
 abbrev pub StandsRow : ℕ → ℕ → Type 0
 StandsRow found row = found ≡ row
 
+-- how many entries of the history are known after a step: after a load of word 1 those up to the point that it showed
+abbrev pub known_after : Setup → (known : ℕ) → Step → ℕ
+known_after c known s = next_shown (is_load_of 1 s) known (s.shown / 2 - base_of c)
+
+abbrev pub known_through : Setup → (known : ℕ) → List Step → ℕ
+known_through c known [] = known
+known_through c known (s ∷ steps) = known_through c (known_after c known s) steps
+
+-- the history has this entry, and this clock row isn't below that of its reply
+abbrev pub IsRowAfter : List Publication → (k row : ℕ) → Type 0
+IsRowAfter history k row = (k < length history) × ((slice_index_or history k no_publication).replied ≤ row)
+
+-- and this point of the page isn't below that of the page that its poll saw
+abbrev pub IsPageAfter : Setup → List Publication → (k point : ℕ) → Type 0
+IsPageAfter c history k point = (k < length history) × (2 * page_number_of (count_of c.page) (slice_index_or history k no_publication).sequence ≤ point)
+
+-- what a load of the clock or of the page's count shows isn't below what the entries tell that are known by then
+abbrev pub FollowsFrom : Setup → List Publication → (known : ℕ) → List Step → Type 0
+FollowsFrom c history known [] = Unit {0}
+FollowsFrom c history known (s ∷ steps) =
+    When (is_load_of 23 s) ((k : ℕ) → k < known → IsRowAfter history k s.shown) × When (is_load_of 11 s) ((k : ℕ) → k < known → IsPageAfter c history k s.shown)
+    × FollowsFrom c history (known_after c known s) steps
+
 -- what holds of a call in the view, from its first step on: histories and pages grow, each try that a load ends is whole where its
 -- words say so, and points, page points and rows never fall from what was seen before the call to what is seen now
 pub record IsSoundCall (v : SeatView) : Type 0 where
@@ -67,9 +92,11 @@ pub record IsSoundCall (v : SeatView) : Type 0 where
   pub pages : Begins v.before.pages v.seen.pages
   pub sound : SoundFrom v.setup v.seen.history no_segment_try v.steps
   pub page_sound : PageSoundFrom v.setup v.seen.pages no_page_try v.steps
-  pub points : Climbs 1 (StandsPoint v.setup) v.before.point v.steps v.seen.point
+  pub points : Climbs 1 (ShowsPoint v.setup) v.before.point v.steps v.seen.point
   pub page_points : Climbs 11 (StandsPage v.setup) v.before.page_point v.steps v.seen.page_point
   pub rows : Climbs 23 StandsRow v.before.rows v.steps v.seen.rows
+  pub known : known_through v.setup 0 v.steps ≤ length v.seen.history
+  pub follows : FollowsFrom v.setup v.seen.history 0 v.steps
 
 -- ---- the daemon's point
 
@@ -100,9 +127,13 @@ pub record AddsLoad (first : Bool) (i n : ℕ) (v w : SeatView) : Type 0 where
   pub pages : Begins v.seen.pages w.seen.pages
   pub sound : When (i == 1) (IsWholeRead v.setup w.seen.history (segment_try_at first v) n shown)
   pub page_sound : When (i == 11) (IsWholePageRead v.setup w.seen.pages (page_try_at first v) n shown)
-  pub points : Moves 1 (StandsPoint v.setup) (loaded i n shown) v.seen.point w.seen.point
+  pub points : Moves 1 (ShowsPoint v.setup) (loaded i n shown) v.seen.point w.seen.point
   pub page_points : Moves 11 (StandsPage v.setup) (loaded i n shown) v.seen.page_point w.seen.page_point
   pub rows : Moves 23 StandsRow (loaded i n shown) v.seen.rows w.seen.rows
+  -- the front is the whole history; a row and a page aren't below those that the history tells
+  pub place : When (i == 1) (shown / 2 - base_of v.setup ≡ length w.seen.history)
+  pub row_after : When (i == 23) ((k : ℕ) → k < length v.seen.history → IsRowAfter v.seen.history k shown)
+  pub page_after : When (i == 11) ((k : ℕ) → k < length v.seen.history → IsPageAfter v.setup v.seen.history k shown)
   -- the daemon's own load of word 1 shows its own point
   pub own : v.is_daemon ≡ true → When (i == 1) (shown ≡ point_of v.daemon_part.segment)
 

@@ -238,6 +238,10 @@ front_view first a v found left =
 abbrev pub StandsPoint : Setup → ℕ → ℕ → Type 0
 StandsPoint c found p = ((found ≡ 0) × (p ≡ 0)) ⊎ IsHeaderFor c.layout found (number_of_point c.layout p)
 
+-- what a load of word 1 shows: a point that its value stands for; at an even one above 0 the history has its entry
+abbrev pub ShowsPoint : Setup → ℕ → ℕ → Type 0
+ShowsPoint c found p = StandsPoint c found p × (p % 2 ≡ 0 → 0 < p / 2 → base_of c < p / 2)
+
 abbrev pub IsBounded : Publication → Type 0
 IsBounded e = KeepsBounds e.rec.as_of e.rec.void_after e.rec.bound e.rec.drift
 
