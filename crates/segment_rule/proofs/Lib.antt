@@ -7,3 +7,4 @@ pub mod Causes
 pub mod Polling
 pub mod Hosting
 pub mod Times
+pub mod ReadRecord

@@ -19,7 +19,7 @@ pub record Parts (steps : List Step) (xs ys : List Touch) : Type 0 where
   pub front_is : touches_of front ≡ xs
   pub back_is : touches_of back ≡ ys
 
-same_head : (a b : Touch) (xs ys : List Touch) → a ∷ xs ≡ b ∷ ys → (a ≡ b) × (xs ≡ ys)
+pub same_head : (a b : Touch) (xs ys : List Touch) → a ∷ xs ≡ b ∷ ys → (a ≡ b) × (xs ≡ ys)
 same_head a b xs ys e = (cc, cc)
 
 pub parts : (steps : List Step) (xs ys : List Touch) → touches_of steps ≡ xs ++ ys → Parts steps xs ys
@@ -30,7 +30,7 @@ parts (s ∷ steps) (x ∷ xs) ys e =
     let p = parts steps xs ys h.1 in
     record { front = s ∷ p.front; back = p.back; whole = ap (λ (l : List Step). s ∷ l) p.whole; front_is = (λ j. h.0 j ∷ p.front_is j); back_is = p.back_is }
 
-sound_back : (c : Setup) (history : List Publication) (t : SegmentTry) (xs ys : List Step) → SoundFrom c history t (xs ++ ys) → SoundFrom c history (segment_try_after t xs) ys
+pub sound_back : (c : Setup) (history : List Publication) (t : SegmentTry) (xs ys : List Step) → SoundFrom c history t (xs ++ ys) → SoundFrom c history (segment_try_after t xs) ys
 sound_back c history t [] ys h = h
 sound_back c history t (x ∷ xs) ys h = sound_back c history (after_step t x) xs ys h.1
 
@@ -43,7 +43,7 @@ pub record EndsTry (c : Setup) (history : List Publication) (t : SegmentTry) (la
   pub shown : ℕ
   pub whole : IsWholeRead c history t last shown
 
-with_word : (t : SegmentTry) (s : Step) (k w : ℕ) → s.touch ≡ load k w → k ≢ 1 → after_step t s ≡ record t { loads = t.loads ++ (k, w) ∷ [] }
+pub with_word : (t : SegmentTry) (s : Step) (k w : ℕ) → s.touch ≡ load k w → k ≢ 1 → after_step t s ≡ record t { loads = t.loads ++ (k, w) ∷ [] }
 with_word t s k w e ne =
     let test : (k == 1) ≡ false = grind (arith, nat_tests) in
     subst (λ (x : Touch). after_step t (record { touch = x; shown = s.shown }) ≡ record t { loads = t.loads ++ (k, w) ∷ [] }) (sym e) (rw test refl)
