@@ -8,3 +8,4 @@ pub mod Polling
 pub mod Hosting
 pub mod Times
 pub mod ReadRecord
+pub mod AnswerCauses

@@ -243,13 +243,15 @@ module _ (v : SeatView) (sound : IsSoundCall v) (generation : ℕ) (rec : Record
           let follows = subst (FollowsFrom c v.seen.history 0) s.is sound.follows in
           let f = follows_rest c v.seen.history 0 s.front (loaded 1 word s.first ∷ (s.between ++ loaded 1 word s.second ∷ loaded 23 row s.third ∷ s.back)) follows in
           let g = follows_rest c v.seen.history (s.first / 2 - base_of c) s.between (loaded 1 word s.second ∷ loaded 23 row s.third ∷ s.back) f.2 in
-          let after = g.2.0 (s.first / 2 - base_of c - 1) (omega (arith, above, order)) in
-          (is.0, record {
-            after = above;
-            known = is.1;
-            same = rec_is ∙ record_read entry.rec words entry refl eight is.2 is.3;
-            replied = subst (λ (n : ℕ). entry.replied ≤ n) third after.1;
-          })
+          let after = g.2.0 (s.first / 2 - base_of c - 1) (omega (arith, above, order)) in (
+            is.0,
+            record {
+              after = above;
+              known = is.1;
+              same = rec_is ∙ record_read entry.rec words entry refl eight is.2 is.3;
+              replied = subst (λ (n : ℕ). entry.replied ≤ n) third after.1;
+            },
+          )
 
 same_word : (first last : ℕ) → (first == last) ≡ true → last ≡ first
 same_word first last is = grind (arith, nat_tests, is)

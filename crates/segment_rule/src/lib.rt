@@ -9,6 +9,7 @@
 mod client;
 mod daemon;
 mod host;
+mod laws;
 mod plays;
 mod settle;
 mod table;
@@ -16,6 +17,7 @@ mod table;
 pub use client::ClientSeat;
 pub use daemon::DaemonSeat;
 pub use host::HostSeat;
+pub use laws::answer_laws;
 pub use plays::{Announced, AnnouncedPage, WordsRule};
 pub use table::HostTable;
 
