@@ -23,23 +23,6 @@ const REPLY: [u8; 104] = [
 // As-of 1 s, void-after 1,001 s, bound 244,142 ns, marker 0, drift 50,000, synchronized, without support.
 const OLD: [u64; 8] = [1, 0, 1_001, 0, 244_142, 0, 0x0000_0001_0000_c350, 0];
 
-// A page with sequence count 2 and marker 7.
-const PAGE: [u64; 13] = [
-    0x0000_0068_4b4c_4356,
-    0x0000_0002_0001_0001,
-    7,
-    0,
-    0,
-    0,
-    0,
-    0,
-    0,
-    0,
-    0,
-    0,
-    0,
-];
-
 // A clock at 2 s and at 3 s.
 fn clock() -> [ClockRow; 2]
     ensures rows { AreRows result }
@@ -67,6 +50,15 @@ fn image(header: u64) -> [u64; 10] {
     }
     words[1] = header;
     words[2..10].copy_from_slice(&OLD);
+    words
+}
+
+// A page with sequence count 2 and this marker.
+fn page(marker: u64) -> [u64; 13] {
+    let mut words = [0; 13];
+    words[0] = 0x0000_0068_4b4c_4356;
+    words[1] = 0x0000_0002_0001_0001;
+    words[2] = marker;
     words
 }
 
@@ -338,44 +330,30 @@ fn a_stopped_publication_of_a_moved_segment_is_completed(rt: HostRuntime) {
 
 #[test]
 fn each_kind_of_image_is_opened(rt: HostRuntime) {
-    for (message, header, layout, found) in [
-        ("nothing", 0, Layout::Two, ("fresh", 0, None, 2)),
-        ("nothing", 0, Layout::Three, ("fresh", 0, None, 2)),
-        (
-            "number 0",
-            word1(Layout::Two, 0),
-            Layout::Two,
-            ("fresh", 0, None, 2),
-        ),
-        (
-            "torn",
-            word1(Layout::Two, 7),
-            Layout::Two,
-            ("torn", 7, None, 8),
-        ),
-        (
-            "kept",
-            word1(Layout::Two, 8),
-            Layout::Two,
-            ("kept", 8, None, 10),
-        ),
-        (
-            "torn",
-            word1(Layout::Three, 65_537),
-            Layout::Three,
-            ("torn", 65_537, None, 65_538),
-        ),
-        (
-            "kept",
-            word1(Layout::Three, 65_536),
-            Layout::Three,
-            ("kept", 65_536, None, 65_538),
-        ),
+    for (layout, number, found) in [
+        (Layout::Two, 0, ("fresh", 0, None, 2)),
+        (Layout::Two, 7, ("torn", 7, None, 8)),
+        (Layout::Two, 8, ("kept", 8, None, 10)),
+        (Layout::Three, 0, ("fresh", 0, None, 2)),
+        (Layout::Three, 65_537, ("torn", 65_537, None, 65_538)),
+        (Layout::Three, 65_536, ("kept", 65_536, None, 65_538)),
     ] {
+        let header = word1(layout, number);
         assert_eq!(rt;
             opened(rt.alloc(), header, layout),
             Some(found),
-            "{message} in {layout:?}"
+            "{number} in {layout:?}"
+        );
+    }
+}
+
+#[test]
+fn words_without_a_header_are_opened_as_new_ones(rt: HostRuntime) {
+    for layout in [Layout::Two, Layout::Three] {
+        assert_eq!(rt;
+            opened(rt.alloc(), 0, layout),
+            Some(("fresh", 0, None, 2)),
+            "{layout:?}"
         );
     }
 }
@@ -502,10 +480,9 @@ fn found_by_poll(
 
 #[test]
 fn a_poll_finds_what_the_host_did(rt: HostRuntime) -> Result<(), Fail> {
-    let mut next = PAGE;
-    next[2] = 8;
-    let (table, mut host, mut seat) = with_page(rt.alloc(), &PAGE).ok_or("there is a table")?;
-    assert_eq!(rt; goes_on(&mut host, &table, &PAGE, &next), Some(2));
+    let start = page(7);
+    let (table, mut host, mut seat) = with_page(rt.alloc(), &start).ok_or("there is a table")?;
+    assert_eq!(rt; goes_on(&mut host, &table, &start, &page(8)), Some(2));
     let opening = seat.reopen(&table);
     assert_eq!(rt;
         found_by_poll(&mut seat, &table, &opening.start),
@@ -516,7 +493,7 @@ fn a_poll_finds_what_the_host_did(rt: HostRuntime) -> Result<(), Fail> {
 
 #[test]
 fn a_table_tells_what_it_was_made_of(rt: HostRuntime) -> Result<(), Fail> {
-    let (table, _host, _seat) = with_page(rt.alloc(), &PAGE).ok_or("there is a table")?;
+    let (table, _host, _seat) = with_page(rt.alloc(), &page(7)).ok_or("there is a table")?;
     assert_eq!(rt;
         (table.rows(), table.support(), table.layout()),
         (2, true, Layout::Two)
