@@ -11,9 +11,10 @@ use crate::daemon::DaemonSeat;
 use crate::host::HostSeat;
 use crate::plays::{CutDaemon, CutHost, WordsRule};
 use atomic_table::{Seat, Table};
+use clock_gate::Memory;
 use generation_word::Layout;
 use segment_views::{Setup, View};
-use std::alloc::{AllocError, Global};
+use std::alloc::Global;
 use std::marker::Model;
 use vmclock_page::HostMachine;
 
@@ -86,7 +87,7 @@ impl HostTable {
     ///
     /// `image` is one that `admit` accepts with the layout, `page` the words of the start page, which `from_words` accepts.
     /// `rows`, from 1 to 300,000, are those of the clock, and word 23 begins at the first. `clients` are from 1 to 64. The daemon's
-    /// seat isn't open yet, and no client's call is in hand. `AllocError` where memory is wanting.
+    /// seat isn't open yet, and no client's call is in hand. `Memory` where it is wanting.
     pub fn new(
         alloc: Global,
         layout: Layout,
@@ -94,7 +95,7 @@ impl HostTable {
         page: Option<[u64; 13]>,
         rows: u32,
         clients: u32,
-    ) -> Result<(HostTable, HostSeat, DaemonSeat, ClientSeat), AllocError>
+    ) -> Result<(HostTable, HostSeat, DaemonSeat, ClientSeat), Memory>
         requires image { IsOk (image_of layout image.now) }
         requires page { IsStartPage page }
         requires some_rows { 1 ≤ rows }
@@ -121,7 +122,7 @@ impl HostTable {
         alloc: Global,
         setup: &Setup,
         machine: HostMachine,
-    ) -> Result<(HostTable, HostSeat, DaemonSeat, ClientSeat), AllocError>
+    ) -> Result<(HostTable, HostSeat, DaemonSeat, ClientSeat), Memory>
         requires setup { IsSetup setup.now }
         requires rows { setup.now.rows ≤ MOST_HOST_ROWS }
         requires clients { setup.now.clients ≤ MOST_CLIENTS }
