@@ -5,6 +5,9 @@ use Rattle.promised_truth.specs.Laws.{TellsPremises}
 use Rattle.bound_cli.proofs.Dated.{run_dated}
 use Rattle.bound_cli.proofs.laws.texts_hold.Goals as goal
 
+pub returns-clause-given : goal.returns-clause-given
+returns-clause-given c = c.read_runs_laws.ensures.traces
+
 pub returns-clause-replayed : goal.returns-clause-replayed
 returns-clause-replayed c bytes trace read =
     let given = c.read_runs_laws.ensures.traces bytes trace read in
