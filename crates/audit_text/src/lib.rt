@@ -15,6 +15,5 @@ mod parts;
 pub use judging::audited;
 pub use laws::verdict_laws;
 
-
 #[cfg(test)]
 mod tests;

@@ -12,8 +12,9 @@ call,1
 
 const DAEMON: &str =
     "clockbound-report,1\nopen,1,fresh,0\npub,1,1,2,1,0,2,synchronized,1000000000,244142,0,1\n";
-const ANSWER: &str =
-    "ans,1,1,time,2,2,0,synchronized,1700000002499630858,1700000002500369142\n";
+
+const ANSWER: &str = "ans,1,1,time,2,2,0,synchronized,1700000002499630858,1700000002500369142\n";
+
 const TOTAL: &str = "total,1,1,1,0,1,0,0\n";
 
 fn tells(alloc: Global, text: &[u8], want: &[u8]) -> bool {
@@ -61,7 +62,12 @@ fn the_first_unlawful_line_is_told(rt: HostRuntime) -> Result<(), Fail> {
             "total,1,1,1,0,1,0,0\nreport\n",
             "unlawful,6\n",
         ),
-        ("a second line of that word", "report\n", TOTAL, "unlawful,4\n"),
+        (
+            "a second line of that word",
+            "report\n",
+            TOTAL,
+            "unlawful,4\n",
+        ),
     ] {
         let text = format!(in alloc; "{TRACE}report\n{DAEMON}{answer}{total}")?;
         assert!(rt; tells(alloc, text.as_bytes(), told.as_bytes()), "{case}");

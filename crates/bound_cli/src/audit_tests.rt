@@ -14,8 +14,11 @@ const IMAGE: &str = "4e5a4d4100024243500000000200feff\
 
 const DAEMON: &str =
     "clockbound-report,1\nopen,1,fresh,0\npub,1,1,2,1,0,2,synchronized,1000000000,244142,0,1\n";
+
 const ANSWER: &str = "ans,1,1,time,2,2,0,synchronized,1700000002499630858,1700000002500369142\n";
+
 const TOTAL: &str = "total,1,1,1,0,1,0,0\n";
+
 const NO_TIMES: &str = "total,1,1,0,0,0,0,0\n";
 
 // What these words come to over a text, and what is written.
