@@ -1,6 +1,6 @@
 #!/usr/bin/env python3
-"""audits.py OURS OTHER [CASES [SEED]]: has both programs audit so many reports (1,000 without CASES) of the traces that compare.py makes, and
-compares what they write. A report is what OTHER's `replay` gives of the trace, in the order of threads, or, where OTHER has that command, what its
+"""audits.py OURS OTHER [CASES [SEED]]: has both programs audit so many reports (1,000 without CASES) of generated days and of the traces that
+compare.py makes, and compares what they write. A report is what OTHER's `replay` gives of the trace, in the order of threads, or, where OTHER has that command, what its
 `threads` gives; and then changed: in a byte, a number or a line, as it is left out, doubled or exchanged with another. Prints the first differing
 case, or how many were lawful, unlawful and refused, and how often each kind of line was the first unlawful one."""
 import collections
@@ -60,7 +60,10 @@ def changed(draw, lines):
 
 def case(seed, other):
     draw = random.Random(seed)
-    base = (story if seed % 5 == 4 else trace)(seed // 8)
+    if seed % 7 == 6:
+        base = run(other, ["drill", str(draw.randrange(3)), str(draw.randint(6, 40)), "--trace"], "")[1]
+    else:
+        base = (story if seed % 5 == 4 else trace)(seed // 8)
     status, report, _ = run(other, ["replay"], base)
     if status == 0:
         lines = in_order(report)

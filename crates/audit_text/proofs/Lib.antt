@@ -1,1 +1,2 @@
+pub mod FewRecords
 pub mod FirstLine

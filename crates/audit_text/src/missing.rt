@@ -1,5 +1,5 @@
 //! Why a text without a line `report` is refused.
-ghost use Rattle.std.specs.Prelude.{◌≡◌, ◌≤◌, length, IfOk};
+ghost use Rattle.std.specs.Prelude.{◌≡◌, ◌≤◌, ◌<◌, ◌-◌, ◌^◌, length, IfOk};
 ghost use Rattle.csv_records.specs.Records.{records_of};
 ghost use Rattle.csv_records.specs.TraceError.{Refuses};
 ghost use Rattle.audit_text.specs.Audited.{no_report, unreported};
@@ -23,23 +23,22 @@ fn count_records(alloc: Global, bytes: &[u8]) -> Result<usize, AllocError>
     Ok(count)
 }
 
-// The line after the last record of a text, where a line `report` is missing. No trace has so many records that their number isn't one of 32 bits.
+// The line after the last record of a text that is a trace, where a line `report` is missing.
 fn after_the_last(alloc: Global, bytes: &[u8]) -> TraceError
+    requires { length (records_of bytes.now) < 2 ^ 32 - 1 }
     ensures { Refuses result (no_report bytes.now) }
 {
-    let Ok(count) = count_records(alloc, bytes) else {
-        return TraceError::Memory;
-    };
-    if count >= u32::MAX as usize {
-        return TraceError::Memory;
+    match count_records(alloc, bytes) {
+        Ok(count) => TraceError::Refused(TraceFault {
+            line: count as u32 + 1,
+            reason: Reason::Kind,
+        }),
+        Err(_) => TraceError::Memory,
     }
-    TraceError::Refused(TraceFault {
-        line: count as u32 + 1,
-        reason: Reason::Kind,
-    })
 }
 
 /// The fault of a text without a line `report`: that of its trace, or that the line is missing after the last record.
+#[tactic(auto, using(crate::proofs::FewRecords::few_records))]
 pub fn refusal(alloc: Global, bytes: &[u8]) -> TraceError
     ensures { Refuses result (unreported bytes.now) }
 {

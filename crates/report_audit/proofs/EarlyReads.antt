@@ -39,7 +39,7 @@ pub record EarlyReads (numbers : List ℕ) (causality : Causality) : Type 0 wher
   pub late : causality.mono + 1000 < as_of
 
 pub early_reads : (trace : Trace) (course : Course) (call : Call) (seen after : Seen) (causality : Causality) (numbers text later : List ℕ)
-    → numbers ≡ numbers_in 6 text → call.client < 2 ^ 32 → call.number < 2 ^ 32 → IsClock trace.clock → 1 ≤ seen.row → All EntryFits course.entries
+    → numbers ≡ numbers_in 5 text → call.client < 2 ^ 32 → call.number < 2 ^ 32 → IsClock trace.clock → 1 ≤ seen.row → All EntryFits course.entries
     → IsEarly trace course seen causality after → text ≡ answered_line call.client call.number 0 (Early causality) ++ later → EarlyReads numbers causality
 early_reads trace course call seen after causality numbers text later same c k clock first fits early is =
     let number = number_of causality.as_of (causality.mono + 1000) early.early in

@@ -10,6 +10,7 @@ use crate::early_answer::early_answer;
 use crate::failed_answers::{busy_answer, nothing_answer, page_busy_answer};
 use crate::known::Known;
 use crate::progress::Progress;
+use crate::reading::five_numbers;
 use crate::time_answer::time_answer;
 use clock_gate::{Memory, Trace};
 use interval_now::Answer;
@@ -38,26 +39,27 @@ pub fn answer_at<'a>(
     requires entries { All EntryFits progress.now.entries.items }
     ensures { IfOk result (λ found. (course : Course) → ShowsCourse course progress.now → AnswerFound trace.now course call seen text.now IsAnyAnswer found) }
 {
-    match time_answer(alloc, trace, known, progress, call, seen, text) {
-        Err(Memory) => return Err(Memory),
-        Ok(Some(found)) => return Ok(Some(found)),
-        Ok(None) => {}
-    }
-    match busy_answer(alloc, trace, progress.point, call, seen, text) {
-        Err(Memory) => return Err(Memory),
-        Ok(Some(found)) => return Ok(Some(found)),
-        Ok(None) => {}
-    }
-    match page_busy_answer(alloc, known.pages, call, seen, text) {
-        Err(Memory) => return Err(Memory),
-        Ok(Some(found)) => return Ok(Some(found)),
-        Ok(None) => {}
-    }
     match nothing_answer(alloc, call, seen, text) {
         Err(Memory) => return Err(Memory),
         Ok(Some(found)) => return Ok(Some(found)),
         Ok(None) => {}
     }
+    let numbers = five_numbers(text);
+    match time_answer(alloc, trace, known, progress, call, seen, numbers, text) {
+        Err(Memory) => return Err(Memory),
+        Ok(Some(found)) => return Ok(Some(found)),
+        Ok(None) => {}
+    }
+    match busy_answer(alloc, trace, progress.point, call, seen, numbers, text) {
+        Err(Memory) => return Err(Memory),
+        Ok(Some(found)) => return Ok(Some(found)),
+        Ok(None) => {}
+    }
+    match page_busy_answer(alloc, known.pages, call, seen, numbers, text) {
+        Err(Memory) => return Err(Memory),
+        Ok(Some(found)) => return Ok(Some(found)),
+        Ok(None) => {}
+    }
     // The last of the kinds: a search that finds nothing is then the end of the audit.
-    early_answer(alloc, trace, progress, call, seen, text)
+    early_answer(alloc, trace, progress, call, seen, numbers, text)
 }

@@ -5,11 +5,11 @@ ghost use Rattle.clock_gate.specs.declared.limits.TheConstants.{MOST_HOST_ROWS};
 ghost use Rattle.lawful_report.specs.Course.{Course};
 ghost use Rattle.report_audit.specs.Auditor.{ShowsCourse, EntryFits};
 ghost use Rattle.report_audit.specs.FoundLines.{AnswerFound, IsEarlyAnswer, AsOfFound, HasMonoAt};
+ghost use Rattle.report_audit.specs.Numbers.{numbers_in};
 ghost use Rattle.report_audit.specs.Leasts.{IsLeastOrNone};
 
 use crate::answer_head::after_answer;
 use crate::progress::Progress;
-use crate::reading::six_numbers;
 use crate::time_line::entry_at;
 use clock_gate::{ClockRow, Memory, Stamp, Trace};
 use interval_now::{Answer, Causality};
@@ -97,8 +97,10 @@ pub fn early_answer<'a>(
     progress: &Progress,
     call: Call,
     seen: Seen,
+    numbers: [u64; 5],
     text: &'a [u8],
 ) -> Result<Option<(Seen, Answer, &'a [u8])>, Memory>
+    requires numbers { numbers ≡ numbers_in 5 text.now }
     requires clock { IsClock trace.now.clock }
     requires rows { length trace.now.clock ≤ MOST_HOST_ROWS }
     requires row { 1 ≤ seen.row }
@@ -108,7 +110,6 @@ pub fn early_answer<'a>(
     requires entries { All EntryFits progress.now.entries.items }
     ensures { IfOk result (λ found. (course : Course) → ShowsCourse course progress.now → AnswerFound trace.now course call seen text.now IsEarlyAnswer found) }
 {
-    let numbers = six_numbers(text);
     let (nanos, mono) = (numbers[2], numbers[3]);
     let Some(as_of) = as_of_after(nanos, mono) else {
         return Ok(None);

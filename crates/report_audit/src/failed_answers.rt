@@ -4,11 +4,11 @@ ghost use Rattle.clock_gate.specs.declared.trace.Trace.{Trace};
 ghost use Rattle.lawful_report.specs.Course.{Course};
 ghost use Rattle.report_audit.specs.FoundLines.{AnswerFound, IsBusyAnswer, IsNothingAnswer, IsPageBusyAnswer};
 ghost use Rattle.report_audit.specs.KnownPages.{KnowsPages};
+ghost use Rattle.report_audit.specs.Numbers.{numbers_in};
 
 use crate::answer_head::after_answer;
 use crate::pages::{Pages, page_after};
 use crate::points::busy_point;
-use crate::reading::six_numbers;
 use clock_gate::{Memory, Trace};
 use interval_now::Answer;
 use lawful_report::{Call, Seen};
@@ -62,13 +62,14 @@ pub fn busy_answer<'a>(
     until: u64,
     call: Call,
     seen: Seen,
+    numbers: [u64; 5],
     text: &'a [u8],
 ) -> Result<Option<(Seen, Answer, &'a [u8])>, Memory>
+    requires numbers { numbers ≡ numbers_in 5 text.now }
     requires from { seen.point < 2 ^ 40 }
     requires until { until < 2 ^ 40 }
     ensures { IfOk result (λ found. (course : Course) → course.point ≡ until → AnswerFound trace.now course call seen text.now IsBusyAnswer found) }
 {
-    let numbers = six_numbers(text);
     let Ok(first) = u32::try_from(numbers[3]) else {
         return Ok(None);
     };
@@ -97,13 +98,14 @@ pub fn page_busy_answer<'a>(
     pages: Pages,
     call: Call,
     seen: Seen,
+    numbers: [u64; 5],
     text: &'a [u8],
 ) -> Result<Option<(Seen, Answer, &'a [u8])>, Memory>
+    requires numbers { numbers ≡ numbers_in 5 text.now }
     requires most { pages.most < 2 ^ 31 }
     requires page { seen.page < 2 ^ 31 }
     ensures { IfOk result (λ found. (trace : Trace) (course : Course) → KnowsPages trace pages → AnswerFound trace course call seen text.now IsPageBusyAnswer found) }
 {
-    let numbers = six_numbers(text);
     let Ok(first) = u32::try_from(numbers[2]) else {
         return Ok(None);
     };

@@ -52,6 +52,35 @@ pub fn six_numbers(text: &[u8]) -> [u64; 6]
     [a, b, c, d, e, f]
 }
 
+/// The first five numbers of a text, wherever they stand.
+pub fn five_numbers(text: &[u8]) -> [u64; 5]
+    ensures { result ≡ numbers_in 5 text.now }
+{
+    let (a, text) = next_number(text);
+    let (b, text) = next_number(text);
+    let (c, text) = next_number(text);
+    let (d, text) = next_number(text);
+    let (e, _) = next_number(text);
+    [a, b, c, d, e]
+}
+
+/// Three numbers, where each has 32 bits.
+pub fn three_of(first: u64, second: u64, third: u64) -> Option<(u32, u32, u32)>
+    ensures found { IfSome result (λ r. (r.0 ≡ first) × (r.1 ≡ second) × (r.2 ≡ third)) }
+    ensures large { IfNone result (first < 2 ^ 32 → second < 2 ^ 32 → third < 2 ^ 32 → ⊥) }
+{
+    let Ok(first) = u32::try_from(first) else {
+        return None;
+    };
+    let Ok(second) = u32::try_from(second) else {
+        return None;
+    };
+    let Ok(third) = u32::try_from(third) else {
+        return None;
+    };
+    Some((first, second, third))
+}
+
 /// Three numbers of a text in a row, from the one at this place on; `None` exactly where one of them has more than 32 bits.
 pub fn three_at(text: &[u8], at: usize) -> Option<(u32, u32, u32)>
     requires { at ≤ 3 }
@@ -59,14 +88,5 @@ pub fn three_at(text: &[u8], at: usize) -> Option<(u32, u32, u32)>
     ensures large { IfNone result (slice_index (numbers_in 6 text.now) at < 2 ^ 32 → slice_index (numbers_in 6 text.now) (at + 1) < 2 ^ 32 → slice_index (numbers_in 6 text.now) (at + 2) < 2 ^ 32 → ⊥) }
 {
     let numbers = six_numbers(text);
-    let Ok(first) = u32::try_from(numbers[at]) else {
-        return None;
-    };
-    let Ok(second) = u32::try_from(numbers[at + 1]) else {
-        return None;
-    };
-    let Ok(third) = u32::try_from(numbers[at + 2]) else {
-        return None;
-    };
-    Some((first, second, third))
+    three_of(numbers[at], numbers[at + 1], numbers[at + 2])
 }

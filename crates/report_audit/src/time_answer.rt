@@ -5,10 +5,11 @@ ghost use Rattle.clock_gate.specs.declared.limits.TheConstants.{MOST_HOST_ROWS};
 ghost use Rattle.lawful_report.specs.Course.{Course};
 ghost use Rattle.report_audit.specs.Auditor.{KnowsTrace, ShowsCourse};
 ghost use Rattle.report_audit.specs.FoundLines.{AnswerFound, IsTimeAnswer, LeastTime, PlaceFits};
+ghost use Rattle.report_audit.specs.Numbers.{numbers_in};
 
 use crate::known::Known;
 use crate::progress::Progress;
-use crate::reading::three_at;
+use crate::reading::three_of;
 use crate::time_line::{TimePlace, time_point};
 use clock_gate::{Memory, Trace, reading};
 use interval_now::{Answer, Interval, Timed};
@@ -77,8 +78,10 @@ pub fn time_answer<'a>(
     progress: &Progress,
     call: Call,
     seen: Seen,
+    numbers: [u64; 5],
     text: &'a [u8],
 ) -> Result<Option<(Seen, Answer, &'a [u8])>, Memory>
+    requires numbers { numbers ≡ numbers_in 5 text.now }
     requires clock { IsClock trace.now.clock }
     requires rows { length trace.now.clock ≤ MOST_HOST_ROWS }
     requires knows { KnowsTrace trace.now known.now }
@@ -87,7 +90,7 @@ pub fn time_answer<'a>(
     requires until { progress.now.point < 2 ^ 39 }
     ensures { IfOk result (λ found. (course : Course) → ShowsCourse course progress.now → AnswerFound trace.now course call seen text.now IsTimeAnswer found) }
 {
-    let Some((generation, row, page)) = three_at(text, 2) else {
+    let Some((generation, row, page)) = three_of(numbers[2], numbers[3], numbers[4]) else {
         return Ok(None);
     };
     let clock = trace.clock.as_slice();

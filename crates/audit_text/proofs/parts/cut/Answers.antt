@@ -1,9 +1,6 @@
-use Rattle.std.proofs.Common.{◌≡◌, ◌≤◌, ◌<◌, ◌+◌, ◌∙◌, sym, ap, ℕ, List, true, false, length, take, drop, arith, subst}
-use Rattle.std.proofs.lemmas.List.{length-take, length-drop}
-use Rattle.memchr.specs.Find.{OccursAt, FindsNeedle}
-use Rattle.memchr.proofs.lemmas.MatchLemmas.{OccursAt-part, OccursAt-from_part}
-use Rattle.audit_text.specs.Cut.{cut_of, goes_on}
-use Rattle.audit_text.proofs.FirstLine.{FirstAt, cut_first, cut_later, cut_nowhere, occurs, stands, searched, StandsAt}
+use Rattle.std.proofs.Common.{◌≡◌, ◌∙◌, sym, true, false, arith}
+use Rattle.audit_text.specs.Cut.{goes_on}
+use Rattle.audit_text.proofs.FirstLine.{FirstAt, cut_first, cut_later, cut_nowhere, occurs, stands}
 use Rattle.audit_text.proofs.parts.cut.Goals as goal
 
 pub returns-then-starts_with : goal.returns-then-starts_with

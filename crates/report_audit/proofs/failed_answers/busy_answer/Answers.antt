@@ -19,7 +19,7 @@ record Reads (numbers : List ℕ) (first last : ℕ) : Type 0 where
   first_small : first < 2 ^ 32
   last_small : last < 2 ^ 32
 
-read : (trace : Trace) (course : Course) (call : Call) (seen after : Seen) (numbers text later : List ℕ) (first last : ℕ) → numbers ≡ numbers_in 6 text → call.client < 2 ^ 32 → call.number < 2 ^ 32 → call.tries < 2 ^ 32
+read : (trace : Trace) (course : Course) (call : Call) (seen after : Seen) (numbers text later : List ℕ) (first last : ℕ) → numbers ≡ numbers_in 5 text → call.client < 2 ^ 32 → call.number < 2 ^ 32 → call.tries < 2 ^ 32
     → IsBusy trace course seen first last after → text ≡ answered_line call.client call.number 0 (Busy call.tries first last) ++ later → Reads numbers first last
 read trace course call seen after numbers text later first last same c k t busy is =
     let small = failing_small trace.layout seen.point course.point first last after.point busy.found in
@@ -33,22 +33,22 @@ read trace course call seen after numbers text later first last same c k t busy 
 
 pub returns-in_default : goal.returns-in_default
 returns-in_default c course point = no_busy c.args.trace.now course c.args.call c.args.seen c.args.text.now (λ first last after later busy begins.
-    let is = read c.args.trace.now course c.args.call c.args.seen after c.six_numbers-numbers.result c.args.text.now later first last c.six_numbers-numbers.ensures (search rules) (search rules) (search rules) busy begins in
+    let is = read c.args.trace.now course c.args.call c.args.seen after c.args.numbers c.args.text.now later first last c.requires.numbers (search rules) (search rules) (search rules) busy begins in
     c.in_default.ensures (omega (arith, is.first_is, is.first_small)))
 
 pub returns-in_default-try_from : goal.returns-in_default-try_from
 returns-in_default-try_from c course point = no_busy c.args.trace.now course c.args.call c.args.seen c.args.text.now (λ first last after later busy begins.
-    let is = read c.args.trace.now course c.args.call c.args.seen after c.six_numbers-numbers.result c.args.text.now later first last c.six_numbers-numbers.ensures (search rules) (search rules) (search rules) busy begins in
+    let is = read c.args.trace.now course c.args.call c.args.seen after c.args.numbers c.args.text.now later first last c.requires.numbers (search rules) (search rules) (search rules) busy begins in
     c.in_default-try_from.ensures (omega (arith, is.last_is, is.last_small)))
 
 pub returns-in_default-busy_point : goal.returns-in_default-busy_point
 returns-in_default-busy_point c course point = no_busy c.args.trace.now course c.args.call c.args.seen c.args.text.now (λ first last after later busy begins.
-    let is = read c.args.trace.now course c.args.call c.args.seen after c.six_numbers-numbers.result c.args.text.now later first last c.six_numbers-numbers.ensures (search rules) (search rules) (search rules) busy begins in
+    let is = read c.args.trace.now course c.args.call c.args.seen after c.args.numbers c.args.text.now later first last c.requires.numbers (search rules) (search rules) (search rules) busy begins in
     let first_same : c.from.result ≡ first = c.from.ensures ∙ (c.in-Ok.ensures.1 ∙ is.first_is) in
     let last_same : c.from-2.result ≡ last = c.from-2.ensures ∙ (c.in-Ok-try_from.ensures.1 ∙ is.last_is) in
     c.in_default-busy_point.ensures after.point (rw (c.period-period.ensures.value, first_same, last_same, sym point) busy.found))
 
 pub returns-in-None : goal.returns-in-None
 returns-in-None c course point = no_busy c.args.trace.now course c.args.call c.args.seen c.args.text.now (λ first last after later busy begins.
-    let is = read c.args.trace.now course c.args.call c.args.seen after c.six_numbers-numbers.result c.args.text.now later first last c.six_numbers-numbers.ensures (search rules) (search rules) (search rules) busy begins in
+    let is = read c.args.trace.now course c.args.call c.args.seen after c.args.numbers c.args.text.now later first last c.requires.numbers (search rules) (search rules) (search rules) busy begins in
     (rw c.in-None.is at c.in_ok-later.ensures.other) later (rw (c.in-Ok.ensures.1 ∙ is.first_is, c.in-Ok-try_from.ensures.1 ∙ is.last_is) begins))
