@@ -20,7 +20,7 @@ pub record Reported : Type 0 where
   pub trace : Trace
   pub report : List ℕ
 
--- the line after the last record is none of a trace's kinds where it has to be `report`
+-- the line `report` is missing after the last record
 abbrev pub no_report : List ℕ → Result Reported TraceFault
 no_report text = Err (record { line = length (records_of text) + 1; reason = Kind })
 
