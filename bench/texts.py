@@ -5,7 +5,8 @@ of 1,000 servers with 1,000 questions among them; `turns`, 50,000,000 turns of t
 polls, each with its clock row and three calls, and 800,000 lines of any party's turns; `full`, seconds of a clock row with its true time, a poll and
 three calls until 16 MiB are full; `clients`, 300,000 calls of 64 clients before a first record, after 1,000 of them, and while an update is open; `seconds`,
 27,000 of those seconds.
-texts.py reported TRACE REPORT: a trace, the line `report`, and what `replay` reports of it, in the order of threads, which is lawful."""
+texts.py reported TRACE REPORT: a trace without its lines of turns, the line `report`, and what `replay` reports of it, in the order of
+threads, which is lawful."""
 import pathlib
 import random
 import sys
@@ -112,7 +113,7 @@ def clients():
 def reported(trace, report):
     rows = pathlib.Path(report).read_text().splitlines()[:-1]
     answers = sorted((row for row in rows if row.startswith("ans,")), key=lambda row: [int(n) for n in row.split(",")[1:3]])
-    yield from pathlib.Path(trace).read_text().splitlines()
+    yield from (row for row in pathlib.Path(trace).read_text().splitlines() if not row.startswith("run,"))
     yield "report"
     yield from (row for row in rows if not row.startswith(("ans,", "total,")))
     yield from answers
