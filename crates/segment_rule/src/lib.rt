@@ -22,4 +22,6 @@ pub use plays::{Announced, AnnouncedPage, WordsRule};
 pub use table::HostTable;
 
 #[cfg(test)]
+mod client_tests;
+#[cfg(test)]
 mod tests;
