@@ -1,16 +1,13 @@
 // Each expected answer is reasoned: a try that a change of word 1 falls into fails, the next one reads the new record, and what comes
 // after a read doesn't change it. Seats step by turns here, in one thread.
-ghost use Rattle.std.specs.Prelude.{◌≡◌, ◌≤◌, true, false, Some, None, length, is_some, IfSome, IfNone};
+ghost use Rattle.std.specs.Prelude.{◌≡◌, ◌≤◌, true, false, None, length, IfSome, IfNone};
 ghost use Rattle.clock_gate.specs.declared.limits.TheConstants.{MOST_TRIES};
 ghost use Rattle.clock_gate.specs.ClockRow.{IsClock};
 ghost use Rattle.interval_now.specs.Call.{Agrees};
 ghost use Rattle.writer_reopen.specs.PollMachine.{DaemonFits};
-ghost use Rattle.segment_views.specs.Views.{Begins};
 
 use super::*;
-use crate::tests::{
-    REPLY, clock, found_by_poll, goes_on, image, last_and_next, page, published, stores_told,
-};
+use crate::tests::{REPLY, clock, image, last_and_next, published, stores_told};
 use clock_gate::{ClockRow, ClockStatus, Stamp};
 use generation_word::{Layout, word1};
 use interval_now::{Answer, Causality, Interval, Timed};
@@ -18,11 +15,10 @@ use segment_layout::{Start, admit};
 use status_machine::{Daemon, hear};
 use std::alloc::Global;
 use std::test::Fail;
-use vmclock_page::from_words;
 use writer_reopen::Polled;
 
 // A table of these words for two clients, without a page, and its seats.
-fn seated(
+pub(crate) fn seated(
     alloc: Global,
     words: &[u64; 10],
     layout: Layout,
@@ -39,7 +35,7 @@ fn seated(
 }
 
 // What a call answers.
-fn now(client: &mut ClientSeat, table: &HostTable, tries: u16) -> Answer
+pub(crate) fn now(client: &mut ClientSeat, table: &HostTable, tries: u16) -> Answer
     requires table { client.old.table ≡ table.now.id }
     requires rows { client.old.view.setup.rows ≡ 2 }
     requires hand { client.old.in_hand ≡ false }
@@ -81,7 +77,7 @@ fn steps(
 }
 
 // Takes a call in hand, and makes so many of its steps, or fewer where it ends: those that it made, and the answer.
-fn begun(
+pub(crate) fn begun(
     client: &mut ClientSeat,
     table: &HostTable,
     clock: &[ClockRow],
@@ -105,7 +101,7 @@ fn begun(
 }
 
 // The rest of a call that made so many steps: the steps of all of it, and its answer.
-fn finished(
+pub(crate) fn finished(
     client: &mut ClientSeat,
     table: &HostTable,
     clock: &[ClockRow],
@@ -146,7 +142,7 @@ fn published_first(seat: &mut DaemonSeat, table: &HostTable) -> Option<Daemon>
 }
 
 // The first poll of a daemon that began with this: the number that it publishes.
-fn next_number(seat: &mut DaemonSeat, table: &HostTable, start: &Start) -> Option<u32>
+pub(crate) fn next_number(seat: &mut DaemonSeat, table: &HostTable, start: &Start) -> Option<u32>
     requires table { seat.old.table ≡ table.now.id }
     requires open { seat.old.is_open ≡ true }
     requires setup { (seat.old.view.setup.rows ≡ 2) × (seat.old.view.setup.page ≡ None) }
@@ -180,7 +176,7 @@ fn stopped(seat: &mut DaemonSeat, table: &HostTable, state: Daemon, stores: u8) 
 }
 
 // The answer by a record of the same clock row: the real time of the row, and 244,142 ns either way.
-fn at_once(generation: u32, row: u32) -> Answer {
+pub(crate) fn at_once(generation: u32, row: u32) -> Answer {
     let (earliest, latest) = match row {
         1 => (1_700_000_000_999_755_858, 1_700_000_001_000_244_142),
         _ => (1_700_000_001_999_755_858, 1_700_000_002_000_244_142),
@@ -189,7 +185,7 @@ fn at_once(generation: u32, row: u32) -> Answer {
 }
 
 // The answer at row 2 by a record of row 1, a second before: 50,000 ns more either way.
-fn a_second_later(generation: u32) -> Answer {
+pub(crate) fn a_second_later(generation: u32) -> Answer {
     synchronized(
         generation,
         2,
@@ -211,7 +207,7 @@ fn synchronized(generation: u32, row: u32, earliest: i128, latest: i128) -> Answ
     })
 }
 
-fn busy(tries: u16, first: u32, last: u32) -> Answer {
+pub(crate) fn busy(tries: u16, first: u32, last: u32) -> Answer {
     Answer::Busy { tries, first, last }
 }
 
@@ -480,181 +476,6 @@ fn a_clock_more_than_a_microsecond_before_the_record_is_causality(rt: HostRuntim
         assert_eq!(rt;
             early(rt.alloc(), word1(layout, 2), layout, 1_001),
             Some(causality(1_001)),
-            "{layout:?}"
-        );
-    }
-}
-
-// A table with this page, and its seats.
-fn with_page(
-    alloc: Global,
-    start: &[u64; 13],
-) -> Option<(HostTable, HostSeat, DaemonSeat, ClientSeat)>
-    ensures host { IfSome result (λ r. (r.1.table ≡ r.0.id) × (r.1.view.setup.rows ≡ 2) × (r.1.view.setup.page ≡ Some start.now)) }
-    ensures part { IfSome result (λ r. (r.1.view.host_part.rows ≡ 1) × (length r.1.view.host_part.pages ≡ 1)) }
-    ensures daemon { IfSome result (λ r. (r.2.table ≡ r.0.id) × (r.2.view.setup.rows ≡ 2) × (is_some r.2.view.setup.page ≡ true)) }
-    ensures client { IfSome result (λ r. (r.3.table ≡ r.0.id) × (r.3.view.setup.rows ≡ 2) × (r.3.in_hand ≡ false)) }
-{
-    let words = image(0);
-    if admit(&words, Layout::Two).is_err() || from_words(start).is_err() {
-        return None;
-    }
-    HostTable::new(alloc, Layout::Two, &words, Some(*start), 2, 1).ok()
-}
-
-// A call of so many tries, after so many of whose steps the host writes a page with another marker and the clock goes on.
-fn met_by_a_page(alloc: Global, tries: u16, place: u32) -> Option<(u32, Answer)>
-    requires some { 1 ≤ tries }
-    requires most { tries ≤ MOST_TRIES }
-    requires place { place ≤ 100 }
-{
-    let start = page(7);
-    let (table, mut host, mut daemon, mut client) = with_page(alloc, &start)?;
-    let opening = daemon.reopen(&table);
-    let _found = found_by_poll(&mut daemon, &table, &opening.start)?;
-    let clock = clock();
-    let (made, answer) = begun(&mut client, &table, &clock, tries, place);
-    let _row = goes_on(&mut host, &table, &start, &page(8))?;
-    finished(&mut client, &table, &clock, made, answer)
-}
-
-// This answer, with the page's sequence count, and Disrupted where the record's marker isn't the page's.
-fn with_sequence(answer: Answer, sequence: u32, status: ClockStatus) -> Answer {
-    match answer {
-        Answer::Time(timed) => Answer::Time(Timed {
-            sequence,
-            interval: Interval {
-                status,
-                ..timed.interval
-            },
-            ..timed
-        }),
-        other => other,
-    }
-}
-
-// What such a call comes to: the page's count is loaded at its twelfth and its fourteenth step.
-fn read_page(tries: u16, place: u32) -> (u32, Answer) {
-    match place {
-        0..=10 => (
-            14,
-            with_sequence(a_second_later(2), 4, ClockStatus::Disrupted),
-        ),
-        11 => (14, with_sequence(at_once(2, 1), 4, ClockStatus::Disrupted)),
-        12..=13 if tries == 1 => (14, Answer::PageBusy { first: 2, last: 4 }),
-        12..=13 => (17, with_sequence(at_once(2, 1), 4, ClockStatus::Disrupted)),
-        _ => (
-            14,
-            with_sequence(at_once(2, 1), 2, ClockStatus::Synchronized),
-        ),
-    }
-}
-
-// Between whole calls the page is at rest, so that PageBusy comes only where the host writes between the steps of one call.
-#[test]
-fn a_page_try_that_a_page_falls_into_is_made_again(rt: HostRuntime) {
-    for tries in [1, 2, 10] {
-        for place in 0..15 {
-            assert_eq!(rt;
-                met_by_a_page(rt.alloc(), tries, place),
-                Some(read_page(tries, place)),
-                "after {place} steps of {tries} tries"
-            );
-        }
-    }
-}
-
-// The seat of the further client, which has seen what the first one has.
-fn further(client: &mut ClientSeat, table: &HostTable) -> ClientSeat
-    requires table { client.old.table ≡ table.now.id }
-    requires first { (client.old.is_first ≡ true) × (client.old.splits ≡ 0) × (client.old.view.setup.clients ≡ 2) }
-    requires hand { client.old.in_hand ≡ false }
-    ensures table { (client.new.table ≡ client.old.table) × (result.table ≡ client.old.table) }
-    ensures setup { (client.new.view.setup ≡ client.old.view.setup) × (result.view.setup ≡ client.old.view.setup) }
-    ensures hand { (client.new.in_hand ≡ false) × (result.in_hand ≡ false) }
-    ensures seen { result.view.seen ≡ client.old.view.seen }
-{
-    client.split(table)
-}
-
-// A further client makes whole calls while a call of one try is in hand at the first seat, and a publication falls between: what the
-// further one answers before and after, whether calls are in hand then, and what becomes of the call.
-fn split_apart(
-    alloc: Global,
-    layout: Layout,
-) -> Option<(Answer, (bool, bool), Answer, (u32, Answer))> {
-    let (table, mut host, mut daemon, mut client) = seated(alloc, &image(0), layout)?;
-    let opening = daemon.reopen(&table);
-    let _number = next_number(&mut daemon, &table, &opening.start)?;
-    let mut second = further(&mut client, &table);
-    let clock = clock();
-    let (made, answer) = begun(&mut client, &table, &clock, 1, 5);
-    let before = now(&mut second, &table, 1);
-    let hands = (client.in_hand(), second.in_hand());
-    host.advance(&table);
-    let _number = next_number(&mut daemon, &table, &opening.start)?;
-    let after = now(&mut second, &table, 1);
-    let call = finished(&mut client, &table, &clock, made, answer)?;
-    Some((before, hands, after, call))
-}
-
-#[test]
-fn a_further_client_answers_by_itself(rt: HostRuntime) {
-    for layout in [Layout::Two, Layout::Three] {
-        assert_eq!(rt;
-            split_apart(rt.alloc(), layout),
-            Some((
-                at_once(2, 1),
-                (true, false),
-                at_once(4, 2),
-                (10, busy(1, 2, 4))
-            )),
-            "{layout:?}"
-        );
-    }
-}
-
-// Settles this client's seat.
-fn settle(table: &HostTable, host: &mut HostSeat, daemon: &mut DaemonSeat, client: &mut ClientSeat)
-    requires tables { (host.old.table ≡ table.now.id) × (daemon.old.table ≡ table.now.id) × (client.old.table ≡ table.now.id) }
-    requires hand { client.old.in_hand ≡ false }
-    ensures tables { (host.new.table ≡ host.old.table) × (daemon.new.table ≡ daemon.old.table) }
-    ensures daemon { (daemon.new.is_open ≡ daemon.old.is_open) × (daemon.new.view.setup ≡ daemon.old.view.setup) }
-    ensures client { client.new ≡ client.old }
-    ensures history { Begins client.new.view.seen.history daemon.new.view.daemon_part.segment.history }
-{
-    table.settle(host, daemon, client);
-}
-
-// Two clients are settled between their calls, and a publication falls between: two answers before it, and two after it.
-fn settled(alloc: Global, layout: Layout) -> Option<[Answer; 4]> {
-    let (table, mut host, mut daemon, mut client) = seated(alloc, &image(0), layout)?;
-    let opening = daemon.reopen(&table);
-    let _number = next_number(&mut daemon, &table, &opening.start)?;
-    host.advance(&table);
-    let mut second = further(&mut client, &table);
-    let first = now(&mut client, &table, 1);
-    settle(&table, &mut host, &mut daemon, &mut client);
-    settle(&table, &mut host, &mut daemon, &mut second);
-    let again = now(&mut client, &table, 1);
-    let _number = next_number(&mut daemon, &table, &opening.start)?;
-    let next = now(&mut second, &table, 1);
-    settle(&table, &mut host, &mut daemon, &mut second);
-    let last = now(&mut client, &table, 1);
-    Some([first, again, next, last])
-}
-
-#[test]
-fn settling_changes_no_answer(rt: HostRuntime) {
-    for layout in [Layout::Two, Layout::Three] {
-        assert_eq!(rt;
-            settled(rt.alloc(), layout),
-            Some([
-                a_second_later(2),
-                a_second_later(2),
-                at_once(4, 2),
-                at_once(4, 2)
-            ]),
             "{layout:?}"
         );
     }
