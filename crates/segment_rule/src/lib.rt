@@ -22,4 +22,10 @@ pub use plays::{Announced, AnnouncedPage, WordsRule};
 pub use table::HostTable;
 
 #[cfg(test)]
+mod client_page_tests;
+#[cfg(test)]
+mod client_tests;
+#[cfg(test)]
+mod further_tests;
+#[cfg(test)]
 mod tests;

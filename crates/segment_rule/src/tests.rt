@@ -1,4 +1,5 @@
 ghost use Rattle.std.specs.Prelude.{◌≡◌, ◌≤◌, true, false, Some, None, length, is_some, IfSome};
+ghost use Rattle.clock_gate.specs.ClockRow.{IsClock};
 ghost use Rattle.writer_reopen.specs.Poll.{AreRows};
 ghost use Rattle.writer_reopen.specs.PollMachine.{DaemonFits};
 
@@ -13,7 +14,7 @@ use vmclock_page::{from_words, has_constants_of};
 use writer_reopen::Polled;
 
 // A reply that is good: its leap is 0, its bound 244,142 ns.
-const REPLY: [u8; 104] = [
+pub(crate) const REPLY: [u8; 104] = [
     6, 2, 0, 0, 0, 0x21, 0, 5, 0, 0, 0, 0, 0, 0, 0, 0, 0, 0, 0, 1, 0, 0, 0, 0, 0, 0, 0, 0, 0xa9,
     0xfe, 0xa9, 0x7b, 0xa9, 0xfe, 0xa9, 0x7b, 0, 0, 0, 0, 0, 0, 0, 0, 0, 0, 0, 0, 0, 1, 0, 0, 0, 4,
     0, 0, 0, 0, 0, 0, 0x65, 0, 0, 0, 0, 0, 0, 0, 0xf7, 0xff, 0xff, 0xff, 0, 0, 0, 0, 0, 0, 0, 0, 0,
@@ -24,9 +25,10 @@ const REPLY: [u8; 104] = [
 const OLD: [u64; 8] = [1, 0, 1_001, 0, 244_142, 0, 0x0000_0001_0000_c350, 0];
 
 // A clock at 2 s and at 3 s.
-fn clock() -> [ClockRow; 2]
+pub(crate) fn clock() -> [ClockRow; 2]
     ensures rows { AreRows result }
     ensures two { length result ≡ 2 }
+    ensures moments { IsClock result }
 {
     [
         ClockRow {
@@ -43,7 +45,7 @@ fn clock() -> [ClockRow; 2]
 }
 
 // An image with this header and an old record; without a header nothing was published.
-fn image(header: u64) -> [u64; 10] {
+pub(crate) fn image(header: u64) -> [u64; 10] {
     let mut words = [0; 10];
     if header != 0 {
         words[0] = MAGIC;
@@ -54,7 +56,7 @@ fn image(header: u64) -> [u64; 10] {
 }
 
 // A page with sequence count 2 and this marker.
-fn page(marker: u64) -> [u64; 13] {
+pub(crate) fn page(marker: u64) -> [u64; 13] {
     let mut words = [0; 13];
     words[0] = 0x0000_0068_4b4c_4356;
     words[1] = 0x0000_0002_0001_0001;
@@ -85,7 +87,7 @@ fn started(alloc: Global, header: u64, layout: Layout) -> Option<(HostTable, Dae
 }
 
 // A poll that is published: the daemon after it, and what it publishes.
-fn published(
+pub(crate) fn published(
     seat: &mut DaemonSeat,
     table: &HostTable,
     state: Daemon,
@@ -124,7 +126,12 @@ fn next_number(seat: &mut DaemonSeat, table: &HostTable, start: &Start) -> Optio
 }
 
 // The first poll of a daemon that began with this, with this stop: the stores that it tells.
-fn stores_told(seat: &mut DaemonSeat, table: &HostTable, start: &Start, stop: u8) -> Option<u8>
+pub(crate) fn stores_told(
+    seat: &mut DaemonSeat,
+    table: &HostTable,
+    start: &Start,
+    stop: u8,
+) -> Option<u8>
     requires table { seat.old.table ≡ table.now.id }
     requires open { seat.old.is_open ≡ true }
     requires setup { (seat.old.view.setup.rows ≡ 2) × (seat.old.view.setup.page ≡ None) }
@@ -142,7 +149,7 @@ fn stores_told(seat: &mut DaemonSeat, table: &HostTable, start: &Start, stop: u8
 }
 
 // So many polls, each published: the number of the last, and of one more.
-fn last_and_next(
+pub(crate) fn last_and_next(
     seat: &mut DaemonSeat,
     table: &HostTable,
     start: &Start,
@@ -434,7 +441,7 @@ fn with_page(alloc: Global, start: &[u64; 13]) -> Option<(HostTable, HostSeat, D
 }
 
 // The host writes this page, where it is one of the start page, and goes to its next clock row.
-fn goes_on(
+pub(crate) fn goes_on(
     host: &mut HostSeat,
     table: &HostTable,
     start: &[u64; 13],
@@ -456,7 +463,7 @@ fn goes_on(
 }
 
 // The first poll of a daemon with support: the clock rows of its readings, and the count and the marker of the page.
-fn found_by_poll(
+pub(crate) fn found_by_poll(
     seat: &mut DaemonSeat,
     table: &HostTable,
     start: &Start,
