@@ -91,40 +91,14 @@ fn the_report_begins_after_the_first_line_of_that_word(rt: HostRuntime) -> Resul
 }
 
 #[test]
-fn a_text_is_refused_as_a_trace_is(rt: HostRuntime) {
-    let alloc = rt.alloc();
+fn a_trace_that_is_refused_is_not_judged(rt: HostRuntime) {
     for (case, text, line, reason) in [
-        ("no bytes", "", 1, Reason::Kind),
         ("no trace", "report\n", 1, Reason::Kind),
         (
             "no row of the clock",
             "clockbound-trace,1\nreport\n",
             2,
             Reason::NoClock,
-        ),
-        (
-            "no line of that word",
-            "clockbound-trace,1\nclock,1,1\n",
-            3,
-            Reason::Kind,
-        ),
-        (
-            "empty lines aren't counted",
-            "clockbound-trace,1\n\nclock,1,1\n\n",
-            3,
-            Reason::Kind,
-        ),
-        (
-            "the word without a line feed",
-            "clockbound-trace,1\nclock,1,1\nreport",
-            3,
-            Reason::Kind,
-        ),
-        (
-            "the word with a carriage return",
-            "clockbound-trace,1\nclock,1,1\nreport\r\nreport\n",
-            3,
-            Reason::Kind,
         ),
         (
             "a word before it",
@@ -145,6 +119,37 @@ fn a_text_is_refused_as_a_trace_is(rt: HostRuntime) {
             Reason::ClockBack,
         ),
     ] {
-        assert!(rt; is_refused(alloc, text.as_bytes(), line, reason), "{case}");
+        assert!(rt;
+            is_refused(rt.alloc(), text.as_bytes(), line, reason),
+            "{case}"
+        );
+    }
+}
+
+#[test]
+fn a_text_without_that_line_is_refused_at_its_end(rt: HostRuntime) {
+    for (case, text, line) in [
+        ("no bytes", "", 1),
+        ("no line of that word", "clockbound-trace,1\nclock,1,1\n", 3),
+        (
+            "empty lines aren't counted",
+            "clockbound-trace,1\n\nclock,1,1\n\n",
+            3,
+        ),
+        (
+            "the word without a line feed",
+            "clockbound-trace,1\nclock,1,1\nreport",
+            3,
+        ),
+        (
+            "the word with a carriage return",
+            "clockbound-trace,1\nclock,1,1\nreport\r\nreport\n",
+            3,
+        ),
+    ] {
+        assert!(rt;
+            is_refused(rt.alloc(), text.as_bytes(), line, Reason::Kind),
+            "{case}"
+        );
     }
 }

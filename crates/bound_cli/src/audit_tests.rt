@@ -1,11 +1,8 @@
 use super::*;
-use clock_gate::{List, MemSink, MemSource};
+use crate::order_tests::{REPLY, served};
 use csv_records::Reason;
 use std::alloc::Global;
 use std::test::Fail;
-
-const REPLY: &str =
-    "06020000002100050000000000000000000000010000000000000000a9fea97ba9fea97b0000000000000000000000000001000000040000000000006500000000000000f7ffffff0000000000000000000000000000000000000000ec800000ea80000000000000";
 
 // A segment of layout 2 with generation 65,534.
 const IMAGE: &str = "4e5a4d4100024243500000000200feff\
@@ -21,21 +18,6 @@ const TOTAL: &str = "total,1,1,1,0,1,0,0\n";
 
 const NO_TIMES: &str = "total,1,1,0,0,0,0,0\n";
 
-// What these words come to over a text, and what is written.
-fn served(alloc: Global, given: &[&str], text: &str) -> Result<(Status, Vec<u8>), Fail> {
-    let mut words = Vec::new(alloc);
-    for word in given {
-        words.push(String::from_str(alloc, word)?)?;
-    }
-    let text = List::from_vec(text.as_bytes().to_vec(alloc)?);
-    let mut source = MemSource::new(text, 4_096, List::from_vec(Vec::new(alloc)));
-    let Ok(mut sink) = MemSink::new(alloc, 100, 4_096, List::from_vec(Vec::new(alloc))) else {
-        return Err(Fail::from("there is memory"));
-    };
-    let status = serve(alloc, &words, &mut source, &mut sink);
-    Ok((status, sink.bytes().to_vec(alloc)?))
-}
-
 // The trace of one poll between two rows of the clock, and a call.
 fn one_poll(alloc: Global) -> Result<String, Fail> {
     Ok(format!(in alloc;
@@ -48,58 +30,72 @@ call,1
     )?)
 }
 
-#[test]
-fn a_report_is_lawful_or_has_a_first_unlawful_line(rt: HostRuntime) -> Result<(), Fail> {
-    let alloc = rt.alloc();
+// What an audit comes to of a report with these lines on that trace, and what is written.
+fn audited(
+    alloc: Global,
+    daemon: &str,
+    answer: &str,
+    total: &str,
+) -> Result<(Status, Vec<u8>), Fail> {
     let trace = one_poll(alloc)?;
-    for (case, daemon, answer, total, told) in [
-        ("what threads can give", DAEMON, ANSWER, TOTAL, "lawful\n"),
+    let text = format!(in alloc; "{trace}report\n{daemon}{answer}{total}")?;
+    served(alloc, &["audit"], text.as_str())
+}
+
+#[test]
+fn an_answer_is_lawful_where_threads_can_give_it(rt: HostRuntime) -> Result<(), Fail> {
+    for (case, answer, total, told) in [
+        ("what threads can give", ANSWER, TOTAL, "lawful\n"),
         (
             "a clock row before the reply",
-            DAEMON,
             "ans,1,1,time,2,1,0,synchronized,1700000002499630858,1700000002500369142\n",
             TOTAL,
             "unlawful,4\n",
         ),
         (
             "a call before the first record",
-            DAEMON,
             "ans,1,1,notinit\n",
             NO_TIMES,
             "lawful\n",
         ),
         (
             "tries that met the open update",
-            DAEMON,
             "ans,1,1,busy,10,1,1\n",
             NO_TIMES,
             "lawful\n",
         ),
         (
             "a generation that isn't reached",
-            DAEMON,
             "ans,1,1,busy,10,2,4\n",
             NO_TIMES,
             "unlawful,4\n",
         ),
+    ] {
+        let (status, written) = audited(rt.alloc(), DAEMON, answer, total)?;
+        assert_eq!(rt; status, Status::Ok, "{case}");
+        assert_eq!(rt; written.as_slice(), told.as_bytes(), "{case}");
+    }
+    Ok(())
+}
+
+#[test]
+fn the_first_unlawful_line_is_told(rt: HostRuntime) -> Result<(), Fail> {
+    for (case, daemon, total, told) in [
         (
             "another bound",
             "clockbound-report,1\nopen,1,fresh,0\npub,1,1,2,1,0,2,synchronized,1000000000,244143,0,1\n",
-            ANSWER,
             TOTAL,
             "unlawful,3\n",
         ),
-        ("the counts are missing", DAEMON, ANSWER, "", "unlawful,5\n"),
+        ("the counts are missing", DAEMON, "", "unlawful,5\n"),
         (
             "a line of premises",
             DAEMON,
-            ANSWER,
             "total,1,1,1,0,1,0,0\npremises,held\n",
             "unlawful,6\n",
         ),
     ] {
-        let text = format!(in alloc; "{trace}report\n{daemon}{answer}{total}")?;
-        let (status, written) = served(alloc, &["audit"], text.as_str())?;
+        let (status, written) = audited(rt.alloc(), daemon, ANSWER, total)?;
         assert_eq!(rt; status, Status::Ok, "{case}");
         assert_eq!(rt; written.as_slice(), told.as_bytes(), "{case}");
     }

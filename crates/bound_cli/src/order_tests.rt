@@ -5,11 +5,11 @@ use std::alloc::Global;
 use std::process::Abort;
 use std::test::Fail;
 
-const REPLY: &str =
+pub(crate) const REPLY: &str =
     "06020000002100050000000000000000000000010000000000000000a9fea97ba9fea97b0000000000000000000000000001000000040000000000006500000000000000f7ffffff0000000000000000000000000000000000000000ec800000ea80000000000000";
 
 // What these words come to over a text, and what is written.
-fn served(alloc: Global, given: &[&str], text: &str) -> Result<(Status, Vec<u8>), Fail> {
+pub(crate) fn served(alloc: Global, given: &[&str], text: &str) -> Result<(Status, Vec<u8>), Fail> {
     let mut words = Vec::new(alloc);
     for word in given {
         words.push(String::from_str(alloc, word)?)?;

@@ -1,6 +1,7 @@
 -- Each answer by its cause.
 use Rattle.std.proofs.Common.{◌≡◌, ℕ, ◌+◌, ◌<◌, Bool, true, false, List, [], ◌∷◌, ◌++◌, Option, Some, None, Result, Ok, Err, refl, sym, ap, ◌∙◌, subst, arith, inl, inr}
-use Rattle.std.specs.Prelude.{◌⊎◌, ◌↔◌, is_some, slice_index, int_lt, pos, if◌then◌else◌, ℤ}
+use Rattle.std.specs.Prelude.{◌⊎◌, ◌↔◌, is_some, slice_index, int_lt, pos, ◌<ℤ◌, if◌then◌else◌, ℤ}
+use Rattle.std.proofs.lemmas.Int.{ints}
 use Rattle.clock_gate.specs.declared.clock_row.ClockRow.{ClockRow}
 use Rattle.clock_gate.specs.Acts.{Touch}
 use Rattle.clock_gate.specs.ClockRow.{row_at, reading_at}
@@ -30,12 +31,20 @@ use Rattle.segment_rule.proofs.ReadRecord.{has_read}
 record IsBefore (rec : RecordFields) (mono : ℕ) (causality : Causality) : Type 0 where
   as_of : causality.as_of ≡ rec.as_of
   mono_is : causality.mono ≡ mono
+  early : pos (causality.mono + 1000) <ℤ causality.as_of
 
-before_by : (early : Bool) (rec : RecordFields) (mono : ℕ) (given : Interval) (causality : Causality) → (if early then Err (record { as_of = rec.as_of; mono = mono }) else Ok given) ≡ Err causality → IsBefore rec mono causality
-before_by true rec mono given causality is =
+below_is : (a b : ℤ) → int_lt a b ≡ true → a <ℤ b
+below_is a b is = omega (arith, ints, is)
+
+before_by : (early : Bool) (rec : RecordFields) (mono : ℕ) (given : Interval) (causality : Causality) → int_lt (pos (mono + 1000)) rec.as_of ≡ early → (if early then Err (record { as_of = rec.as_of; mono = mono }) else Ok given) ≡ Err causality → IsBefore rec mono causality
+before_by true rec mono given causality test is =
     let same : record { as_of = rec.as_of; mono = mono } ≡ causality = cc is in
-    record { as_of = sym (ap (λ (e : Causality). e.as_of) same); mono_is = sym (ap (λ (e : Causality). e.mono) same) }
-before_by false rec mono given causality is = absurd (cc is)
+    record {
+      as_of = sym (ap (λ (e : Causality). e.as_of) same);
+      mono_is = sym (ap (λ (e : Causality). e.mono) same);
+      early = subst (λ (e : Causality). pos (e.mono + 1000) <ℤ e.as_of) same (below_is (pos (mono + 1000)) rec.as_of test);
+    }
+before_by false rec mono given causality test is = absurd (cc is)
 
 module _ (clock : List ClockRow) (tries : ℕ) (v : SeatView) (sound : IsSoundCall v) where
   -- an interval, or a reading that lies before the record
@@ -46,7 +55,7 @@ module _ (clock : List ClockRow) (tries : ℕ) (v : SeatView) (sound : IsSoundCa
   timed_by generation rec row later marker sequence (Ok interval) is after page =
       record { rec = rec; read = has_read v tries generation rec row later sound after; later = later; after = after; marker = marker; page = page; interval = is }
   timed_by generation rec row later marker sequence (Err causality) is after page =
-      let before = before_by (int_lt (pos ((row_at clock row).mono + 1000)) rec.as_of) rec (row_at clock row).mono _ causality is in
+      let before = before_by (int_lt (pos ((row_at clock row).mono + 1000)) rec.as_of) rec (row_at clock row).mono _ causality refl is in
       record {
         generation = generation;
         rec = rec;
@@ -59,6 +68,7 @@ module _ (clock : List ClockRow) (tries : ℕ) (v : SeatView) (sound : IsSoundCa
         page = page;
         as_of = before.as_of;
         mono = before.mono_is;
+        early = before.early;
       }
 
   read_by : (generation : ℕ) (rec : RecordFields) (row : ℕ) (later : List Touch) (marker : Option ℕ) (sequence : ℕ) (answer : Answer) → answer ≡ answer_of generation rec (reading_at clock row) marker sequence

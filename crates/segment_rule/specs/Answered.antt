@@ -1,5 +1,5 @@
 -- What a client's answer stands on: the loads of its own call, what they showed, and the history that its seat has seen.
-use Rattle.std.specs.Prelude.{◌≡◌, ℕ, ◌+◌, ◌-◌, ◌/◌, ◌%◌, ◌<◌, ◌≤◌, Bool, true, false, List, [], ◌∷◌, ◌++◌, length, slice_index, Option, Some, None, Ok, is_some}
+use Rattle.std.specs.Prelude.{◌≡◌, ℕ, ◌+◌, ◌-◌, ◌/◌, ◌%◌, ◌<◌, ◌≤◌, ◌<ℤ◌, pos, Bool, true, false, List, [], ◌∷◌, ◌++◌, length, slice_index, Option, Some, None, Ok, is_some}
 use Rattle.clock_gate.specs.declared.clock_row.ClockRow.{ClockRow}
 use Rattle.clock_gate.specs.Acts.{Touch}
 use Rattle.clock_gate.specs.ClockRow.{row_at}
@@ -81,6 +81,7 @@ pub record IsEarly (clock : List ClockRow) (tries : ℕ) (v : SeatView) (causali
   pub page : IsPageRead tries (is_some v.setup.page) later marker sequence
   pub as_of : causality.as_of ≡ rec.as_of
   pub mono : causality.mono ≡ (row_at clock row).mono
+  pub early : pos (causality.mono + 1000) <ℤ causality.as_of
 
 -- every try of the page failed, after record and clock were read
 pub record IsPageBusy (tries : ℕ) (v : SeatView) (first last : ℕ) : Type 0 where
