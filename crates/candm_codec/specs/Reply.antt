@@ -1,7 +1,7 @@
 -- chrony's tracking reply (candm.h, CMD_Reply and RPY_Tracking, protocol version 6), by the places of its fields.
-use Rattle.std.specs.Prelude.{◌≡◌, ◌≤◌, ℕ, zero, suc, Bool, List, [], ◌∷◌, length, Result, nat_le, ◌==◌}
+use Rattle.std.specs.Prelude.{◌≡◌, ◌≤◌, ℕ, zero, suc, Bool, List, [], ◌∷◌, length, Result, Ok, nat_le, ◌==◌}
+use Rattle.clock_gate.specs.FirstFault.{first_fault, unless}
 use Rattle.candm_codec.specs.Numbers.{number}
-use Rattle.candm_codec.specs.FirstFault.{first_fault, ok_unless}
 use Rattle.candm_codec.specs.declared.protocol.TheConstants.{VERSION, REPLY_PACKET, COMMAND_TRACKING, REPLY_TRACKING, STATUS_SUCCESS, LARGEST_LEAP, REPLY_LENGTH}
 use Rattle.candm_codec.specs.declared.tracking.Leap.{Leap}
 use Rattle.candm_codec.specs.declared.tracking.Leap.TheVariants.{Normal, Insert, Delete, Unsynchronised}
@@ -69,4 +69,4 @@ reply_tests bytes =
 
 -- what reading the bytes gives
 unfoldable pub reply_of : List ℕ → Result Tracking ReplyFault
-reply_of bytes = ok_unless (first_fault (reply_tests bytes)) (tracking_at bytes)
+reply_of bytes = unless (first_fault (reply_tests bytes)) (Ok (tracking_at bytes))

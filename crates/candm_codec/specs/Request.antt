@@ -1,7 +1,7 @@
 -- A request for tracking (candm.h, CMD_Request, protocol version 6), by the places of its fields.
-use Rattle.std.specs.Prelude.{◌≡◌, ◌≤◌, ℕ, Bool, List, [], ◌∷◌, length, Result, nat_le, ◌==◌}
+use Rattle.std.specs.Prelude.{◌≡◌, ◌≤◌, ℕ, Bool, List, [], ◌∷◌, length, Result, Ok, nat_le, ◌==◌}
+use Rattle.clock_gate.specs.FirstFault.{first_fault, unless}
 use Rattle.candm_codec.specs.Numbers.{number}
-use Rattle.candm_codec.specs.FirstFault.{first_fault, ok_unless}
 use Rattle.candm_codec.specs.declared.protocol.TheConstants.{VERSION, REQUEST_PACKET, COMMAND_TRACKING, REQUEST_LENGTH}
 use Rattle.candm_codec.specs.declared.request.Request.{Request}
 use Rattle.candm_codec.specs.declared.request.RequestFault.{RequestFault}
@@ -30,4 +30,4 @@ request_tests bytes =
 
 -- what reading the bytes gives
 unfoldable pub request_of : List ℕ → Result Request RequestFault
-request_of bytes = ok_unless (first_fault (request_tests bytes)) (request_at bytes)
+request_of bytes = unless (first_fault (request_tests bytes)) (Ok (request_at bytes))

@@ -1,5 +1,5 @@
 ghost use Rattle.std.specs.Prelude.{◌≡◌, ◌≤◌, length, IfOk, IfErr, Some, Ok};
-ghost use Rattle.candm_codec.specs.FirstFault.{first_fault};
+ghost use Rattle.clock_gate.specs.FirstFault.{first_fault};
 ghost use Rattle.candm_codec.specs.Reply.{leap_at, tracking_at, IsTrackingReply, reply_tests, reply_of};
 ghost use Rattle.candm_codec.specs.Request.{request_at, IsTrackingRequest, request_tests, request_of};
 ghost use Rattle.candm_codec.specs.declared.request.Request.{Request};

@@ -1,6 +1,7 @@
 pub mod Acts
 pub mod ClockRow
 pub mod ClockStatus
+pub mod FirstFault
 pub mod Memory
 pub mod Outside
 pub mod Stamp

@@ -2,3 +2,5 @@ pub mod CallCompletes
 pub mod CallFollows
 pub mod CallRun
 pub mod CallSteps
+pub mod Intervals
+pub mod Statuses

@@ -2,3 +2,4 @@ pub mod Call
 pub mod CallRun
 pub mod CallValues
 pub mod Interval
+pub mod Status

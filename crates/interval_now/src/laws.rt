@@ -1,4 +1,4 @@
-//! What a client call promises for all values that it can be given.
+//! What an interval promises, and a client call for all values that it can be given.
 ghost use Rattle.std.specs.Prelude.{◌≡◌, ℕ, ◌<◌, ◌↔◌, Bool, List, None};
 ghost use Rattle.clock_gate.specs.declared.clock_row.ClockRow.{ClockRow};
 ghost use Rattle.clock_gate.specs.Acts.{Touch, WereAsked};
@@ -6,6 +6,13 @@ ghost use Rattle.interval_now.specs.Call.{Call, started_call, act_of, end_of, gi
 ghost use Rattle.interval_now.specs.declared.answers.Answer.{Answer};
 ghost use Rattle.interval_now.specs.CallRun.{CallCameTo, CallDid, ReadsAll, AnswersTime};
 ghost use Rattle.interval_now.specs.CallValues.{FollowsItsValues};
+ghost use Rattle.interval_now.specs.Status.{IntervalsHaveStatus};
+
+/// What the status of an interval promises.
+pub fn status_law()
+    // Each of the four comes exactly where its case holds.
+    ensures { IntervalsHaveStatus }
+{}
 
 /// What a client call promises.
 pub fn call_laws()

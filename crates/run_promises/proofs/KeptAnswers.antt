@@ -35,7 +35,8 @@ use Rattle.run_promises.proofs.AnyRun.{any_tells, any_marks}
 use Rattle.run_promises.proofs.Chains.{ToldMarked, at_marked, by_marked, at_keeps}
 use Rattle.run_promises.proofs.ClockRows.{clocks_rise, mono_rises, row_placed}
 use Rattle.run_promises.proofs.GivenBases.{IsGiven, poll_gives}
-use Rattle.run_promises.proofs.Growth.{IsInterval, interval_is, growth_since, half_is, half_covers, trusted_same, trusted_known}
+use Rattle.interval_now.proofs.Intervals.{IsInterval, interval_is, growth_since, half_is, half_covers}
+use Rattle.run_promises.proofs.Trusted.{trusted_same, trusted_known}
 use Rattle.run_promises.proofs.PageMarkers.{judge_marker}
 
 -- ---- what no fault says of the counts

@@ -9,7 +9,7 @@ pub mod Turns
 pub mod AnyRun
 pub mod Chains
 pub mod PageMarkers
-pub mod Growth
+pub mod Trusted
 pub mod GivenBases
 pub mod ClockRows
 pub mod FreshRuns

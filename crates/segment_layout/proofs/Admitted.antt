@@ -2,6 +2,8 @@
 use Rattle.std.proofs.Common.{◌≡◌, ◌≢◌, ℕ, ◌/◌, ◌%◌, ◌^◌, ◌<◌, ◌≤◌, Bool, true, false, List, [], ◌∷◌, Option, Some, None, Result, Ok, Err, inl, inr, refl, sym, ap, subst, ◌∙◌, arith}
 use Rattle.std.specs.Prelude.{slice_index, ◌==◌, nat_lt, nat_le, if◌then◌else◌, ◌⊎◌}
 use Rattle.std.proofs.lemmas.Bool.Decides.{nat_tests}
+use Rattle.clock_gate.specs.FirstFault.{first_fault, unless}
+use Rattle.clock_gate.proofs.FirstFault.{all_hold, given_unless}
 use Rattle.generation_word.specs.declared.layout.Layout.{Layout}
 use Rattle.generation_word.specs.declared.layout.Layout.TheVariants.{Two, Three}
 use Rattle.generation_word.specs.declared.header.TheConstants.{LOW_HALF_THREE}
@@ -14,22 +16,10 @@ use Rattle.segment_layout.specs.declared.image_fault.ImageFault.{ImageFault}
 use Rattle.segment_layout.specs.declared.image_fault.ImageFault.TheVariants as fault
 use Rattle.segment_layout.specs.Record.{RecordFields, KeepsBounds}
 use Rattle.segment_layout.specs.Words.{record_words, AreGoodWords, fields_of_words}
-use Rattle.segment_layout.specs.Image.{IsHeaderFor, HasGeneration, IsImageOf, Test, first_fault, has_magic, header_tests, data_tests, unless, start_at, start_by, start_of, image_of}
+use Rattle.segment_layout.specs.Image.{IsHeaderFor, HasGeneration, IsImageOf, Test, has_magic, header_tests, data_tests, start_at, start_by, start_of, image_of}
 use Rattle.segment_layout.proofs.Back.{are_good_words, good_as_of_seconds, good_as_of_nanos, good_void_after_seconds, good_void_after_nanos, good_bound, good_marker, good_drift_and_status, good_flag, record_words_good, fields_of_words-data_words}
 
 -- ---- the data words
-
-abbrev AllHold : List Test → Type 0
-AllHold [] = Unit {0}
-AllHold (test ∷ tests) = (test.0 ≡ true) × AllHold tests
-
-passes : (holds : Bool) (fault : ImageFault) (later : Option ImageFault) → (if holds then later else Some fault) ≡ None → (holds ≡ true) × (later ≡ None)
-passes true fault later e = (refl, e)
-passes false fault later e = absurd cc
-
-all_hold : (tests : List Test) → first_fault tests ≡ None → AllHold tests
-all_hold [] e = tt
-all_hold (test ∷ tests) e = let first = passes test.0 test.1 (first_fault tests) e in (first.0, all_hold tests first.1)
 
 below : (a b : ℕ) → nat_lt a b ≡ true → a < b
 below a b e = grind (arith, nat_tests)
@@ -127,20 +117,18 @@ image_of-only layout words Fresh fits (inr has) = image_of-generation layout wor
 image_of-only layout words (Kept g rec) fits holds = image_of-generation layout words g fits holds.header ∙ start_at-kept words g rec holds.even holds.published holds.spelled holds.bounds
 image_of-only layout words (Torn g) fits holds = image_of-generation layout words g fits holds.0 ∙ start_at-torn words g holds.1
 
-not_refused : {Value : Type 0} (fault : Option ImageFault) (value other : Value) → unless fault (Ok value) ≡ Ok other → (fault ≡ None) × (value ≡ other)
-not_refused None value other e = (refl, cc)
-not_refused (Some fault) value other e = absurd cc
-
 -- an image whose header is good and whose data words are not
 pub image_of-fault : (layout : Layout) (words : List ℕ) (g : ℕ) (fault : ImageFault) → has_magic words ≡ true → slice_index words 1 ≢ 0
     → unless (first_fault (header_tests layout (slice_index words 1))) (Ok (header_of (slice_index words 1)).2) ≡ Ok g → g ≢ 0 → g % 2 ≢ 1 → first_fault (data_tests words) ≡ Some fault → image_of layout words ≡ Err fault
 unfolding image_of
 image_of-fault layout words g fault magic other header not_zero not_odd first =
-    let passed = not_refused (first_fault (header_tests layout (slice_index words 1))) (header_of (slice_index words 1)).2 g header in
+    let passed = given_unless (first_fault (header_tests layout (slice_index words 1))) (Ok (header_of (slice_index words 1)).2) g header in
+    let read : ◌≡◌ {A = Result ℕ ImageFault} (Ok (header_of (slice_index words 1)).2) (Ok g) = passed.1 in
+    let same : (header_of (slice_index words 1)).2 ≡ g = cc read in
     let some_header : (slice_index words 1 == 0) ≡ false = grind (arith, nat_tests) in
     let some_number : (g == 0) ≡ false = grind (arith, nat_tests) in
     let even : (g % 2 == 1) ≡ false = grind (arith, nat_tests) in
-    rw (magic, some_header, passed.0, passed.1, some_number, even, first) refl
+    rw (magic, some_header, passed.0, same, some_number, even, first) refl
 
 -- ---- what is admitted is told by word 1
 
@@ -152,7 +140,9 @@ start_at-start words generation start is = by_zero (generation == 0) (generation
         → (if none then Fresh else if odd then Torn generation else Kept generation (fields_of_words words)) ≡ start
     by_zero true odd e = cc
     by_zero false true e = cc
-    by_zero false false e = (not_refused (first_fault (data_tests words)) (Kept generation (fields_of_words words)) start e).1
+    by_zero false false e =
+        let kept : ◌≡◌ {A = Result Start ImageFault} (Ok (Kept generation (fields_of_words words))) (Ok start) = (given_unless (first_fault (data_tests words)) (Ok (Kept generation (fields_of_words words))) start e).1 in
+        cc kept
 
 pub image_of-start : (layout : Layout) (words : List ℕ) (start : Start) → image_of layout words ≡ Ok start → start_of words ≡ start
 unfolding image_of
@@ -168,11 +158,7 @@ image_of-start layout words start is = by_magic (has_magic words) is
     of_zero zero_header e = rw zero_header cc
 
     of_other : by_header ≡ Ok start → start_of words ≡ start
-    of_other e = of_tests (first_fault (header_tests layout (slice_index words 1))) e
-      where
-        of_tests : (fault : Option ImageFault) → unless fault (start_at words number) ≡ Ok start → start_of words ≡ start
-        of_tests None told = start_at-start words number start told
-        of_tests (Some refused) told = absurd cc
+    of_other e = start_at-start words number start (given_unless (first_fault (header_tests layout (slice_index words 1))) (start_at words number) start e).1
 
     by_zero : (test : Bool) → (slice_index words 1 == 0) ≡ test → (if test then Ok Fresh else by_header) ≡ Ok start → start_of words ≡ start
     by_zero true test e = of_zero (grind (arith, nat_tests)) e

@@ -1,6 +1,7 @@
 -- What ten words hold when a segment is opened, and their first fault.
 use Rattle.std.specs.Prelude.{◌≡◌, ℕ, ◌/◌, ◌%◌, ◌^◌, ◌<◌, Bool, false, ◌||◌, ◌&&◌, List, [], ◌∷◌, slice_index, Option, Some, None, Result, Ok, Err, ◌⊎◌, nat_lt, nat_le, ◌==◌, if◌then◌else◌}
 use Rattle.std.specs.Int.{w32, w64, cast_signed}
+use Rattle.clock_gate.specs.FirstFault.{first_fault, unless}
 use Rattle.generation_word.specs.declared.layout.Layout.{Layout}
 use Rattle.generation_word.specs.declared.layout.Layout.TheVariants.{Two, Three}
 use Rattle.generation_word.specs.declared.header.TheConstants.{LOW_HALF_THREE}
@@ -58,11 +59,6 @@ IsImageOf layout words (Torn generation) = HasGeneration layout words generation
 abbrev pub Test : Type 0
 Test = Bool × ImageFault
 
--- the fault of the first test that does not hold
-abbrev pub first_fault : List Test → Option ImageFault
-first_fault [] = None
-first_fault (test ∷ tests) = if test.0 then first_fault tests else Some test.1
-
 -- the magic, or no segment yet
 abbrev pub has_magic : List ℕ → Bool
 has_magic words = slice_index words 0 == MAGIC || (slice_index words 0 == 0 && slice_index words 1 == 0)
@@ -91,11 +87,6 @@ data_tests words =
     ∷ (nat_le (slice_index words 2) 4000000000, fault.Range 2)
     ∷ (nat_le (slice_index words 4) 4000001000, fault.Range 4)
     ∷ []
-
--- the answer, unless there is a fault
-abbrev pub unless : {Value : Type 0} → Option ImageFault → Result Value ImageFault → Result Value ImageFault
-unless None answer = answer
-unless (Some f) answer = Err f
 
 -- what a header with this generation leads to: the data words are looked at where it is even and not 0
 abbrev pub start_at : List ℕ → ℕ → Result Start ImageFault

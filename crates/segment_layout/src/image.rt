@@ -1,7 +1,8 @@
 ghost use Rattle.std.specs.Prelude.{◌≡◌, ℕ, ◌%◌, ◌^◌, ◌<◌, slice_index, IfOk, Ok};
+ghost use Rattle.clock_gate.specs.FirstFault.{first_fault, unless};
 ghost use Rattle.generation_word.specs.Header.{header_of};
 ghost use Rattle.generation_word.specs.declared.layout.Layout.TheVariants.{Two};
-ghost use Rattle.segment_layout.specs.Image.{IsHeaderFor, IsImageOf, first_fault, has_magic, reads_version, header_tests, data_tests, unless, start_at, image_of};
+ghost use Rattle.segment_layout.specs.Image.{IsHeaderFor, IsImageOf, has_magic, reads_version, header_tests, data_tests, start_at, image_of};
 ghost use Rattle.segment_layout.specs.Words.{words_of_image};
 ghost use Rattle.segment_layout.specs.declared.start.Start.{Start};
 

@@ -19,6 +19,7 @@ use Rattle.interval_now.specs.declared.answers.Causality.{Causality}
 use Rattle.interval_now.specs.declared.answers.Interval.{Interval}
 use Rattle.interval_now.specs.declared.answers.Timed.{Timed}
 use Rattle.interval_now.specs.Call.{timed, answer_of}
+use Rattle.interval_now.proofs.Statuses.{intervals_have_status}
 use Rattle.interval_now.specs.Interval.{interval_of}
 use Rattle.interval_now.specs.CallRun.{answer_without_record, answer_by_page, ReadsThenClock, EndsAtSegment, CallCameTo, CallDid, ReadsAll, AnswersTime}
 use Rattle.segment_views.specs.Views.{SeatView}
@@ -53,7 +54,7 @@ module _ (clock : List ClockRow) (tries : ℕ) (v : SeatView) (sound : IsSoundCa
       → IsAnsweredBy clock tries v (timed generation row sequence found)
   unfolding interval_of
   timed_by generation rec row later marker sequence (Ok interval) is after page =
-      record { rec = rec; read = has_read v tries generation rec row later sound after; later = later; after = after; marker = marker; page = page; interval = is }
+      record { rec = rec; read = has_read v tries generation rec row later sound after; later = later; after = after; marker = marker; page = page; interval = is; status = intervals_have_status rec (row_at clock row).mono (row_at clock row).real marker interval is }
   timed_by generation rec row later marker sequence (Err causality) is after page =
       let before = before_by (int_lt (pos ((row_at clock row).mono + 1000)) rec.as_of) rec (row_at clock row).mono _ causality refl is in
       record {

@@ -15,6 +15,7 @@ use Rattle.interval_now.specs.declared.answers.Answer.TheVariants as answers
 use Rattle.interval_now.specs.declared.answers.Causality.{Causality}
 use Rattle.interval_now.specs.declared.answers.Timed.{Timed}
 use Rattle.interval_now.specs.Interval.{interval_of}
+use Rattle.interval_now.specs.Status.{IsStatusOf}
 use Rattle.interval_now.specs.CallRun.{ReadsThenClock, ReadsAll}
 use Rattle.segment_views.specs.Views.{Step, SeatView, base_of, entry_at}
 use Rattle.segment_views.specs.Steps.{loaded, StandsPoint}
@@ -67,6 +68,7 @@ pub record IsTimed (clock : List ClockRow) (tries : ℕ) (v : SeatView) (timed :
   pub marker : Option ℕ
   pub page : IsPageRead tries (is_some v.setup.page) later marker timed.sequence
   pub interval : interval_of rec (row_at clock timed.row).mono (row_at clock timed.row).real marker ≡ Ok timed.interval
+  pub status : IsStatusOf rec (row_at clock timed.row).mono marker timed.interval.status
 
 -- the clock's row lies more than 1,000 ns before the record; the page was read too
 pub record IsEarly (clock : List ClockRow) (tries : ℕ) (v : SeatView) (causality : Causality) : Type 0 where

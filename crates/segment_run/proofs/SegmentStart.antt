@@ -5,6 +5,8 @@ use Rattle.std.proofs.lemmas.Bool.{cases_eq, eqb-true}
 use Rattle.std.proofs.lemmas.Bool.Decides.{nat_tests}
 use Rattle.std.proofs.lemmas.Int.{ints}
 use Rattle.std.proofs.Math.Nat.{mod-eq_of_lt}
+use Rattle.clock_gate.specs.FirstFault.{first_fault, unless}
+use Rattle.clock_gate.proofs.FirstFault.{all_hold, given_unless}
 use Rattle.generation_word.specs.declared.header.TheConstants.{LOW_HALF_THREE}
 use Rattle.generation_word.specs.declared.layout.Layout.{Layout}
 use Rattle.generation_word.specs.declared.layout.Layout.TheVariants.{Two, Three}
@@ -21,7 +23,7 @@ use Rattle.segment_layout.specs.declared.image_fault.ImageFault.{ImageFault}
 use Rattle.segment_layout.specs.declared.image_fault.ImageFault.TheVariants as fault
 use Rattle.segment_layout.specs.Record.{RecordFields, KeepsBounds}
 use Rattle.segment_layout.specs.Words.{record_words, data_words, AreGoodWords, fields_of_words}
-use Rattle.segment_layout.specs.Image.{IsHeaderFor, first_fault, has_magic, reads_version, header_tests, data_tests, unless, start_at, image_of, start_by, generation_of_start}
+use Rattle.segment_layout.specs.Image.{IsHeaderFor, has_magic, reads_version, header_tests, data_tests, start_at, image_of, start_by, generation_of_start}
 use Rattle.segment_layout.specs.History.{Begun, last_store}
 use Rattle.segment_layout.proofs.Admitted.{good_from_tests, image_of-start}
 use Rattle.segment_layout.proofs.Back.{data_words-fields_of_words}
@@ -48,15 +50,6 @@ pub record IsAdmittedAs (layout : Layout) (image : List ℕ) (start : Start) : T
 passes_if : {Value : Type 0} (b : Bool) (x : Result Value ImageFault) (f : ImageFault) (value : Value) → (if b then x else Err f) ≡ Ok value → (b ≡ true) × (x ≡ Ok value)
 passes_if true x f value e = (refl, e)
 passes_if false x f value e = absurd cc
-
-passes_unless : {Value : Type 0} (found : Option ImageFault) (x : Result Value ImageFault) (value : Value) → unless found x ≡ Ok value → (found ≡ None) × (x ≡ Ok value)
-passes_unless None x value e = (refl, e)
-passes_unless (Some f) x value e = absurd cc
-
-both_hold : (first second : Bool) (f g : ImageFault) → first_fault ((first, f) ∷ (second, g) ∷ []) ≡ None → (first ≡ true) × (second ≡ true)
-both_hold true true f g e = (refl, refl)
-both_hold true false f g e = absurd cc
-both_hold false second f g e = absurd cc
 
 either_holds : (first second : Bool) → (first || second) ≡ true → (first ≡ true) ⊎ (second ≡ true)
 either_holds true second e = inl refl
@@ -105,8 +98,8 @@ reads_by Three word fits size version =
 
 header_reads : (layout : Layout) (word : ℕ) → word < 2 ^ 64 → first_fault (header_tests layout word) ≡ None → Reads layout word (header_of word).2
 header_reads layout word fits none =
-    let both = both_hold ((header_of word).0 == 80) (reads_version layout word) (fault.Size (header_of word).0) (fault.Version (header_of word).1) none in
-    reads_by layout word fits both.0 both.1
+    let both = all_hold (header_tests layout word) none in
+    reads_by layout word fits both.0 both.1.0
 
 -- ---- the start
 
@@ -134,7 +127,7 @@ start_of_number layout image generation start reads is =
             | inr even ↦
                 let even_test : (generation % 2 == 1) ≡ false = grind (arith, nat_tests) in
                 let found : unless (first_fault (data_tests image)) (Ok (Kept generation (fields_of_words image))) ≡ Ok start = rw (some_test, even_test) at is in
-                let passed = passes_unless (first_fault (data_tests image)) (Ok (Kept generation (fields_of_words image))) start found in
+                let passed = given_unless (first_fault (data_tests image)) (Ok (Kept generation (fields_of_words image))) start found in
                 let kept : ◌≡◌ {A = Result Start ImageFault} (Ok (Kept generation (fields_of_words image))) (Ok start) = passed.1 in
                 let same : Kept generation (fields_of_words image) ≡ start = cc kept in
                 let most = reads.1 in
@@ -158,7 +151,7 @@ admitted_holds layout image start fits is =
         | inr some ↦
             let test : (slice_index image 1 == 0) ≡ false = grind (arith, nat_tests) in
             let later : by_header ≡ Ok start = rw test at magic.1 in
-            let passed = passes_unless (first_fault (header_tests layout (slice_index image 1))) (start_at image (header_of (slice_index image 1)).2) start later in
+            let passed = given_unless (first_fault (header_tests layout (slice_index image 1))) (start_at image (header_of (slice_index image 1)).2) start later in
             start_of_number layout image (header_of (slice_index image 1)).2 start (header_reads layout (slice_index image 1) fits passed.0) passed.1
       ];
     }

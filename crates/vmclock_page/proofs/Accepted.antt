@@ -2,10 +2,12 @@
 use Rattle.std.proofs.Common.{◌≡◌, ◌<◌, ◌≤◌, ◌%◌, ◌+◌, ◌*◌, ◌^◌, ◌∙◌, ℕ, Bool, true, false, List, [], ◌∷◌, slice_index, refl, sym, ap, arith}
 use Rattle.std.specs.Prelude.{Option, Some, None, Result, Ok, Err, IsOk, ◌==◌, ◌&&◌}
 use Rattle.std.proofs.lemmas.Bool.{eqb-true, leb-true}
+use Rattle.clock_gate.specs.FirstFault.{first_fault}
+use Rattle.clock_gate.proofs.FirstFault.{all_hold, given_unless}
 use Rattle.vmclock_page.specs.ClockPage.{ClockPage}
 use Rattle.vmclock_page.specs.Constants.{has_constants_of}
 use Rattle.vmclock_page.specs.Numbers.{number}
-use Rattle.vmclock_page.specs.Page.{IsClockPage, page_at, page_of, page_unless, first_fault, tests}
+use Rattle.vmclock_page.specs.Page.{IsClockPage, page_at, page_of, tests}
 use Rattle.vmclock_page.specs.Words.{AreWords, bytes_of_words, page_words, pads_of, word_with_count, constants_in_word}
 use Rattle.vmclock_page.specs.Rows.{page_of_words, AreAlike, IsPageRowOf}
 use Rattle.vmclock_page.specs.Host.{count_of}
@@ -14,35 +16,23 @@ use Rattle.vmclock_page.specs.declared.fault.PageFault.{PageFault}
 use Rattle.vmclock_page.specs.declared.layout.TheConstants.{MAGIC, VERSION, PAGE_BYTES}
 use Rattle.vmclock_page.proofs.Found.{page_words-found, seq_count-found}
 
-abbrev AllHold : List (Bool × PageFault) → Type 0
-AllHold [] = Unit {0}
-AllHold (t ∷ ts) = (t.0 ≡ true) × AllHold ts
-
--- without a fault each test holds
-all_hold : (ts : List (Bool × PageFault)) → first_fault ts ≡ None → AllHold ts
-all_hold [] none = tt
-all_hold ((true, f) ∷ ts) none = (refl, all_hold ts none)
-all_hold ((false, f) ∷ ts) none = absurd (cc none)
-
-unless_ok : (f : Option PageFault) (bytes : List ℕ) (p : ClockPage) → page_unless f bytes ≡ Ok p → (f ≡ None) × (p ≡ page_at bytes)
-unless_ok (Some f) bytes p is = absurd (cc is)
-unless_ok None bytes p is = (refl, cc is)
-
 -- bytes that are read as a page stand for it
 pub page_is : (bytes : List ℕ) (p : ClockPage) → page_of bytes ≡ Ok p → IsClockPage bytes p
 unfolding page_of
 page_is bytes p is =
-    let found = unless_ok (first_fault (tests bytes)) bytes p is in
+    let found = given_unless (first_fault (tests bytes)) (Ok (page_at bytes)) p is in
+    let read : ◌≡◌ {A = Result ClockPage PageFault} (Ok (page_at bytes)) (Ok p) = found.1 in
+    let same : p ≡ page_at bytes = cc read in
     let hold = all_hold (tests bytes) found.0 in
     let large : PAGE_BYTES ≤ number 4 4 bytes = leb-true _ _ hold.1.1.0 in
     let even : number 4 12 bytes % 2 ≡ 0 = eqb-true _ _ hold.1.1.1.1.0 in
     record {
       long = leb-true _ _ hold.0;
       magic = eqb-true _ _ hold.1.0;
-      size = rw found.1 large;
+      size = rw same large;
       version = eqb-true _ _ hold.1.1.1.0;
-      even = rw found.1 even;
-      fields = found.1;
+      even = rw same even;
+      fields = same;
     }
 
 -- the words of a page by its fields

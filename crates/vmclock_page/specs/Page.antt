@@ -1,6 +1,7 @@
 -- The VMClock page of this profile: 104 bytes, little-endian, by the places of its fields. The fields are those of
 -- vmclock-abi.h; their places are this project's own.
 use Rattle.std.specs.Prelude.{◌≡◌, ℕ, ◌≤◌, ◌%◌, Bool, List, [], ◌∷◌, ◌++◌, length, Option, Some, None, Result, Ok, Err, nat_le, ◌==◌, if◌then◌else◌}
+use Rattle.clock_gate.specs.FirstFault.{first_fault, unless}
 use Rattle.vmclock_page.specs.Numbers.{number, spelled}
 use Rattle.vmclock_page.specs.ClockPage.{ClockPage}
 use Rattle.vmclock_page.specs.declared.layout.TheConstants.{MAGIC, VERSION, PAGE_BYTES}
@@ -50,19 +51,9 @@ tests bytes =
     ∷ (number 4 12 bytes % 2 == 0, fault.Odd (number 4 12 bytes))
     ∷ []
 
--- the fault of the first test that does not hold
-abbrev pub first_fault : List (Bool × PageFault) → Option PageFault
-first_fault [] = None
-first_fault (t ∷ ts) = if t.0 then first_fault ts else Some t.1
-
--- a page, where there is no fault
-abbrev pub page_unless : Option PageFault → List ℕ → Result ClockPage PageFault
-page_unless (Some f) bytes = Err f
-page_unless None bytes = Ok (page_at bytes)
-
 -- what reading the bytes gives
 unfoldable pub page_of : List ℕ → Result ClockPage PageFault
-page_of bytes = page_unless (first_fault (tests bytes)) bytes
+page_of bytes = unless (first_fault (tests bytes)) (Ok (page_at bytes))
 
 -- bytes 0 to 15: magic, size, version, counter, kind of time, sequence count
 unfoldable pub header_text : ClockPage → List ℕ

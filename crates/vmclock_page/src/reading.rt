@@ -1,7 +1,8 @@
 ghost use Rattle.std.specs.Prelude.{◌≡◌, ◌≤◌, ◌%◌, length, IfOk, IfErr};
 ghost use Rattle.vmclock_page.specs.ClockPage.{ClockPage};
 ghost use Rattle.vmclock_page.specs.Numbers.{number};
-ghost use Rattle.vmclock_page.specs.Page.{IsClockPage, page_at, tests, first_fault, page_of};
+ghost use Rattle.clock_gate.specs.FirstFault.{first_fault};
+ghost use Rattle.vmclock_page.specs.Page.{IsClockPage, page_at, tests, page_of};
 
 use crate::fault::PageFault;
 use crate::layout::{MAGIC, PAGE_BYTES, VERSION};

@@ -1,7 +1,8 @@
 //! A page as 13 words, each little-endian in 8 of its bytes.
 ghost use Rattle.std.specs.Prelude.{◌≡◌, ◌≢◌, ◌%◌, slice_index, IfOk, IfErr, OnOk};
 ghost use Rattle.vmclock_page.specs.ClockPage.{ClockPage};
-ghost use Rattle.vmclock_page.specs.Page.{IsClockPage, tests, first_fault, page_of, page_text};
+ghost use Rattle.clock_gate.specs.FirstFault.{first_fault};
+ghost use Rattle.vmclock_page.specs.Page.{IsClockPage, tests, page_of, page_text};
 ghost use Rattle.vmclock_page.specs.Words.{words_of, bytes_of_words, page_words, pads_of, count_in_word, ReadAsBytes};
 
 use crate::fault::PageFault;

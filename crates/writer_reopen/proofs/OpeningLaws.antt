@@ -4,6 +4,8 @@ use Rattle.std.specs.Prelude.{slice_index, slice_get, slice_index_or, ◌==◌, 
 use Rattle.std.proofs.lemmas.Bool.{eqb-true, eqb-false}
 use Rattle.std.proofs.lemmas.Bool.Decides.{nat_tests}
 use Rattle.std.proofs.lemmas.List.{get_or-take}
+use Rattle.clock_gate.specs.FirstFault.{first_fault, unless}
+use Rattle.clock_gate.proofs.FirstFault.{given_unless}
 use Rattle.generation_word.specs.declared.layout.Layout.{Layout}
 use Rattle.generation_word.specs.declared.layout.Layout.TheVariants.{Two, Three}
 use Rattle.generation_word.specs.declared.header.TheConstants.{LOW_HALF_THREE}
@@ -18,7 +20,7 @@ use Rattle.segment_layout.specs.declared.start.Start.TheVariants.{Fresh, Kept, T
 use Rattle.segment_layout.specs.declared.image_fault.ImageFault.{ImageFault}
 use Rattle.segment_layout.specs.declared.image_fault.ImageFault.TheVariants.{Magic}
 use Rattle.segment_layout.specs.Words.{fields_of_words}
-use Rattle.segment_layout.specs.Image.{has_magic, first_fault, header_tests, data_tests, unless, start_at, image_of, is_old_header}
+use Rattle.segment_layout.specs.Image.{has_magic, header_tests, data_tests, start_at, image_of, is_old_header}
 use Rattle.writer_reopen.specs.declared.opening.Opening.{Opening}
 use Rattle.writer_reopen.specs.Progress.{Ends, next_or_end}
 use Rattle.writer_reopen.specs.Opening.{version_in, by_generation, torn_steps, kept_steps, later_steps, opening_steps, moved_to, opening_for, opening_of, OpenerState, new_opener, opening_act, opening_given, opening_left, IsMoved, loaded_words}
@@ -187,10 +189,6 @@ under_magic : (b : Bool) (x : Result Start ImageFault) (f : ImageFault) (start :
 under_magic true x f start is = is
 under_magic false x f start is = absurd cc
 
-under_unless : (fault : Option ImageFault) (x : Result Start ImageFault) (start : Start) → unless fault x ≡ Ok start → x ≡ Ok start
-under_unless None x start is = is
-under_unless (Some f) x start is = absurd cc
-
 same_ok : (a b : Start) → ◌≡◌ {A = Result Start ImageFault} (Ok a) (Ok b) → a ≡ b
 same_ok a b is = cc
 
@@ -198,7 +196,7 @@ start_value : (zero_number odd : Bool) (fault : Option ImageFault) (first torn k
     → (if zero_number then first else if odd then torn else kept) ≡ start
 start_value true odd fault first torn kept start is = same_ok first start is
 start_value false true fault first torn kept start is = same_ok torn start is
-start_value false false fault first torn kept start is = same_ok kept start (under_unless fault (Ok kept) start is)
+start_value false false fault first torn kept start is = same_ok kept start (given_unless fault (Ok kept) start is).1
 
 header_value : (none : Bool) (header : ℕ) (later : Result Start ImageFault) (start other : Start) → (header == 0) ≡ none → (if none then Ok Fresh else later) ≡ Ok start
     → (later ≡ Ok start → other ≡ start) → (header ≡ 0 → other ≡ Fresh) → other ≡ start
@@ -217,7 +215,7 @@ admitted_start layout words start is =
     let magic : (if header == 0 then Ok Fresh else later) ≡ Ok start = under_magic (has_magic words) (if header == 0 then Ok Fresh else later) Magic start is in
     start_is layout words
     ∙ header_value (header == 0) header later start (by_generation g Fresh (Torn g) (Kept g (fields_of_words words))) refl magic
-    (λ told. start_value (g == 0) (g % 2 == 1) (first_fault (data_tests words)) Fresh (Torn g) (Kept g (fields_of_words words)) start (under_unless (first_fault (header_tests layout header)) (start_at words g) start told))
+    (λ told. start_value (g == 0) (g % 2 == 1) (first_fault (data_tests words)) Fresh (Torn g) (Kept g (fields_of_words words)) start (given_unless (first_fault (header_tests layout header)) (start_at words g) start told).1)
     (λ none. zero_start header (λ n. Torn n) (λ n. Kept n (fields_of_words words)) none)
 
 pub loaded-header : (values : List ℕ) → slice_index (loaded_words values) 1 ≡ slice_index values 1

@@ -4,6 +4,8 @@ use Rattle.std.specs.Prelude.{length, take, slice_index_or, slice_index, slice_s
 use Rattle.std.proofs.lemmas.Bool.{cases_lt}
 use Rattle.std.proofs.lemmas.Bool.Decides.{nat_tests}
 use Rattle.std.proofs.lemmas.List.{append-nil, get_or_past, get_or-take, length-append, length-take-le, take-take, take_more_set}
+use Rattle.clock_gate.specs.FirstFault.{first_fault, unless}
+use Rattle.clock_gate.proofs.FirstFault.{ok_unless}
 use Rattle.generation_word.specs.declared.layout.Layout.{Layout}
 use Rattle.generation_word.specs.Header.{header_of, generation_in}
 use Rattle.clock_gate.specs.declared.act.Act.{Act}
@@ -13,7 +15,7 @@ use Rattle.segment_layout.specs.declared.start.Start.TheVariants.{Fresh, Kept, T
 use Rattle.segment_layout.specs.declared.image_fault.ImageFault.{ImageFault}
 use Rattle.segment_layout.specs.declared.image_fault.ImageFault.TheVariants.{Magic}
 use Rattle.segment_layout.specs.Words.{AreGoodWords, fields_of_words}
-use Rattle.segment_layout.specs.Image.{has_magic, first_fault, header_tests, data_tests, unless, start_at, image_of, is_old_header}
+use Rattle.segment_layout.specs.Image.{has_magic, header_tests, data_tests, start_at, image_of, is_old_header}
 use Rattle.segment_layout.proofs.Admitted.{good_from_tests}
 use Rattle.writer_reopen.specs.Progress.{Ends, end_of}
 use Rattle.writer_reopen.specs.Opening.{by_generation, torn_steps, move_steps, kept_steps, later_steps, opening_steps, opening_for, opening_of, OpenerState, opening_act, opening_given, opening_end, loaded_words, IsAdmitted}
@@ -108,10 +110,6 @@ under_if : (b : Bool) (x y : Result Start ImageFault) (f : ImageFault) → y ≡
 under_if true x y f refused good = (refl, good)
 under_if false x y f refused good = absurd cc
 
-unless_none : (fault : Option ImageFault) (x : Result Start ImageFault) → IsOk (unless fault x) → (fault ≡ None) × IsOk x
-unless_none None x good = (refl, good)
-unless_none (Some fault) x good = absurd cc
-
 skipped : {Value : Type 0} (b : Bool) (x y : Result Value ImageFault) → b ≡ false → IsOk (if b then x else y) → IsOk y
 skipped true x y other good = absurd cc
 skipped false x y other good = good
@@ -134,10 +132,10 @@ admitted_good layout words admitted some_header some_number even =
     let by_header : Result Start ImageFault = unless (first_fault (header_tests layout (slice_index words 1))) by_number in
     let magic = under_if (has_magic words) (if slice_index words 1 == 0 then Ok Fresh else by_header) (Err Magic) Magic refl admitted in
     let header = skipped (slice_index words 1 == 0) (Ok Fresh) by_header some_header magic.1 in
-    let number = unless_none (first_fault (header_tests layout (slice_index words 1))) by_number header in
+    let number = ok_unless (first_fault (header_tests layout (slice_index words 1))) by_number header in
     let not_fresh = skipped (g == 0) (Ok Fresh) (if g % 2 == 1 then Ok (Torn g) else kept) some_number number.1 in
     let tests = skipped (g % 2 == 1) (Ok (Torn g)) kept even not_fresh in
-    good_from_tests words (unless_none (first_fault (data_tests words)) (Ok (Kept g (fields_of_words words))) tests).0
+    good_from_tests words (ok_unless (first_fault (data_tests words)) (Ok (Kept g (fields_of_words words))) tests).0
 
 -- what ten loaded words of a record that was published are
 pub kept_good : (layout : Layout) (values : List ℕ) → IsAdmitted layout values → 10 ≤ length values

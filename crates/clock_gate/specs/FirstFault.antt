@@ -6,7 +6,7 @@ abbrev pub first_fault : {Fault : Type 0} → List (Bool × Fault) → Option Fa
 first_fault [] = None
 first_fault (test ∷ tests) = if test.0 then first_fault tests else Some test.1
 
--- the value, unless there is a fault
-abbrev pub ok_unless : {Fault Value : Type 0} → Option Fault → Value → Result Value Fault
-ok_unless (Some fault) value = Err fault
-ok_unless None value = Ok value
+-- the answer, unless there is a fault
+abbrev pub unless : {Fault Value : Type 0} → Option Fault → Result Value Fault → Result Value Fault
+unless None answer = answer
+unless (Some fault) answer = Err fault
