@@ -9,7 +9,8 @@ use Rattle.hex.specs.Hex.{IsBytes}
 use Rattle.vmclock_page.specs.Bounds.{KeepsBounds}
 use Rattle.vmclock_page.specs.ClockPage.{ClockPage}
 use Rattle.vmclock_page.specs.Numbers.{number, spelled}
-use Rattle.vmclock_page.specs.Page.{counter_text, first_fault, header_text, page_at, page_of, page_text, page_unless, status_text, tests, time_text}
+use Rattle.clock_gate.specs.FirstFault.{first_fault, unless}
+use Rattle.vmclock_page.specs.Page.{counter_text, header_text, page_at, page_of, page_text, status_text, tests, time_text}
 use Rattle.vmclock_page.specs.Rows.{page_of_words}
 use Rattle.vmclock_page.specs.Words.{page_words, words_of}
 use Rattle.vmclock_page.specs.declared.fault.PageFault.{PageFault}
@@ -53,14 +54,14 @@ number_8 bytes place are =
     rw (number-at 8 place bytes) (omega (arith, b0, b1, b2, b3, b4, b5, b6, b7))
 
 -- what passes the tests has a size of 104 or more, and an even count
-page_unless-bounds : (bytes : List ℕ) (page : ClockPage) → page_unless (first_fault (tests bytes)) bytes ≡ Ok page
+read-bounds : (bytes : List ℕ) (page : ClockPage) → unless (first_fault (tests bytes)) (Ok (page_at bytes)) ≡ Ok page
     → (page_at bytes ≡ page) × (104 ≤ number 4 4 bytes) × (number 4 12 bytes % 2 ≡ 0)
-page_unless-bounds bytes page e = grind (arith, nat_tests)
+read-bounds bytes page e = grind (arith, nat_tests)
 
 page_of-bounds : (bytes : List ℕ) (page : ClockPage) → IsBytes bytes → page_of bytes ≡ Ok page → KeepsBounds page
 unfolding page_of
 page_of-bounds bytes page are e =
-    let (same, large, even) = page_unless-bounds bytes page e in
+    let (same, large, even) = read-bounds bytes page e in
     subst KeepsBounds same (record {
       header = record { large = large; even = even; size = number_4 bytes 4 are; counter_id = number_1 bytes 10 are; time_type = number_1 bytes 11 are; seq_count = number_4 bytes 12 are };
       status = record {

@@ -10,8 +10,10 @@ use Rattle.std.proofs.Math.Nat.{div-one, div-div-eq-div-mul, pow-suc}
 use Rattle.std.proofs.Math.Seq.{drop-cons, take-add}
 use Rattle.byteorder.specs.Endian.{little_from, little_bytes}
 use Rattle.byteorder.specs.Numbers.{little_from-take}
+use Rattle.clock_gate.specs.FirstFault.{first_fault, unless}
+use Rattle.vmclock_page.specs.ClockPage.{ClockPage}
 use Rattle.vmclock_page.specs.Numbers.{number, AreBytes}
-use Rattle.vmclock_page.specs.Page.{page_at, page_unless, page_of}
+use Rattle.vmclock_page.specs.Page.{page_at, page_of, tests}
 use Rattle.vmclock_page.specs.declared.fault.PageFault.{PageFault}
 use Rattle.vmclock_page.specs.Words.{words_of, bytes_of_words}
 use Rattle.vmclock_page.proofs.WordLemmas.{number-at}
@@ -66,18 +68,19 @@ page_at-take bytes =
     (rw (here 8 48 (omega arith), here 8 56 (omega arith), here 8 64 (omega arith), here 8 72 (omega arith))
     (rw (here 8 80 (omega arith), here 8 88 (omega arith), here 8 96 (omega arith)) refl))))
 
-page_unless-take : (fault : Option PageFault) (bytes : List ℕ) → page_unless fault (take 104 bytes) ≡ page_unless fault bytes
-page_unless-take (Some fault) bytes = refl
-page_unless-take None bytes = ap Ok (page_at-take bytes)
+first_fault-take : (bytes : List ℕ) → 104 ≤ length bytes → first_fault (tests (take 104 bytes)) ≡ first_fault (tests bytes)
+first_fault-take bytes long =
+    let len : length (take 104 bytes) ≡ 104 = length-take-le 104 bytes long in
+    let test : nat_le 104 (length bytes) ≡ true = grind (arith, nat_tests) in
+    rw (len, test, number-take 4 0 bytes (omega arith), number-take 4 4 bytes (omega arith))
+    (rw (number-take 2 8 bytes (omega arith), number-take 4 12 bytes (omega arith)) refl)
 
 -- bytes after the 104th are ignored
 page_of-take : (bytes : List ℕ) → 104 ≤ length bytes → page_of (take 104 bytes) ≡ page_of bytes
 unfolding page_of
 page_of-take bytes long =
-    let len : length (take 104 bytes) ≡ 104 = length-take-le 104 bytes long in
-    let test : nat_le 104 (length bytes) ≡ true = grind (arith, nat_tests) in
-    rw (len, test, number-take 4 0 bytes (omega arith), number-take 4 4 bytes (omega arith))
-    (rw (number-take 2 8 bytes (omega arith), number-take 4 12 bytes (omega arith)) (page_unless-take _ bytes))
+    ap (λ (fault : Option PageFault). unless fault (Ok (page_at (take 104 bytes)))) (first_fault-take bytes long)
+    ∙ ap (λ (page : ClockPage). unless (first_fault (tests bytes)) (Ok page)) (page_at-take bytes)
 
 -- the words of a page's bytes read as the bytes do
 pub page_of-words : (bytes : List ℕ) → ((k : ℕ) → slice_index bytes k < 256) → 104 ≤ length bytes → page_of (bytes_of_words (words_of bytes)) ≡ page_of bytes

@@ -1,12 +1,14 @@
 -- What is written is read again.
-use Rattle.std.proofs.Common.{◌≡◌, true, length, drop, Ok, refl, sym, ap, arith}
+use Rattle.std.proofs.Common.{◌≡◌, true, length, drop, Option, None, Ok, refl, sym, ap, ◌∙◌, arith}
 use Rattle.std.specs.Prelude.{nat_le}
 use Rattle.std.proofs.lemmas.Bool.Decides.{nat_tests}
 use Rattle.byteorder.specs.Numbers.{little_number-reads_back}
+use Rattle.clock_gate.specs.FirstFault.{first_fault, unless}
 use Rattle.vmclock_page.specs.ClockPage.{ClockPage}
 use Rattle.vmclock_page.specs.Bounds.{KeepsBounds}
 use Rattle.vmclock_page.specs.Numbers.{number, spelled}
-use Rattle.vmclock_page.specs.Page.{IsClockPage, page_at, page_of, header_text, status_text, counter_text, time_text, page_text}
+use Rattle.vmclock_page.specs.Page.{IsClockPage, page_at, page_of, header_text, status_text, counter_text, time_text, page_text, tests}
+use Rattle.vmclock_page.specs.declared.fault.PageFault.{PageFault}
 use Rattle.vmclock_page.specs.declared.layout.TheConstants.{MAGIC, VERSION}
 
 pub pads_back : (p : ClockPage) → number 2 32 (page_text p) ≡ 0
@@ -132,5 +134,5 @@ module _ (p : ClockPage) (kept : KeepsBounds p) where
   unfolding page_of
   read_back =
       let large : nat_le 104 p.size ≡ true = let h = kept.header.large in grind (arith, nat_tests) in
-      rw (whole, magic_back, version_back, size_back, seq_count_back, large, kept.header.even)
-      (ap Ok fields_back)
+      let none : first_fault (tests (page_text p)) ≡ None = rw (whole, magic_back, version_back, size_back, seq_count_back, large, kept.header.even) refl in
+      ap (λ (fault : Option PageFault). unless fault (Ok (page_at (page_text p)))) none ∙ ap Ok fields_back
