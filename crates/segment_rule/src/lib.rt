@@ -28,4 +28,6 @@ mod client_tests;
 #[cfg(test)]
 mod further_tests;
 #[cfg(test)]
+mod stop_tests;
+#[cfg(test)]
 mod tests;

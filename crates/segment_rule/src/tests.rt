@@ -65,7 +65,7 @@ pub(crate) fn page(marker: u64) -> [u64; 13] {
 }
 
 // The kind of a start.
-fn kind(start: &Start) -> &'static str {
+pub(crate) fn kind(start: &Start) -> &'static str {
     match start {
         Start::Fresh => "fresh",
         Start::Kept(_, _) => "kept",
@@ -74,7 +74,7 @@ fn kind(start: &Start) -> &'static str {
 }
 
 // A table without a page, of an image with this header, and its daemon's seat.
-fn started(alloc: Global, header: u64, layout: Layout) -> Option<(HostTable, DaemonSeat)>
+pub(crate) fn started(alloc: Global, header: u64, layout: Layout) -> Option<(HostTable, DaemonSeat)>
     ensures table { IfSome result (λ r. r.1.table ≡ r.0.id) }
     ensures setup { IfSome result (λ r. (r.1.view.setup.rows ≡ 2) × (r.1.view.setup.page ≡ None)) }
 {
@@ -113,7 +113,7 @@ pub(crate) fn published(
 }
 
 // The first poll of a daemon that began with this: the number that it publishes.
-fn next_number(seat: &mut DaemonSeat, table: &HostTable, start: &Start) -> Option<u32>
+pub(crate) fn next_number(seat: &mut DaemonSeat, table: &HostTable, start: &Start) -> Option<u32>
     requires table { seat.old.table ≡ table.now.id }
     requires open { seat.old.is_open ≡ true }
     requires setup { (seat.old.view.setup.rows ≡ 2) × (seat.old.view.setup.page ≡ None) }
@@ -191,148 +191,6 @@ fn opened(
         opening.moved,
         next,
     ))
-}
-
-// A poll with this stop on this image, and the next opening and poll: the stores that the first tells, what the opening finds, and
-// the number that is published then.
-fn completed(
-    alloc: Global,
-    header: u64,
-    layout: Layout,
-    stop: u8,
-) -> Option<(u8, &'static str, u32, u32)>
-    requires { stop ≤ 10 }
-{
-    let (table, mut seat) = started(alloc, header, layout)?;
-    let opening = seat.reopen(&table);
-    let stores = stores_told(&mut seat, &table, &opening.start, stop)?;
-    let again = seat.reopen(&table);
-    let next = next_number(&mut seat, &table, &again.start)?;
-    Some((stores, kind(&again.start), again.start.generation(), next))
-}
-
-// What `completed` gives after this stop: the first before any store, the last after every store, else the other.
-fn after(
-    stop: u8,
-    rested: (&'static str, u32, u32),
-    torn: (&'static str, u32, u32),
-    ended: (&'static str, u32, u32),
-) -> (u8, &'static str, u32, u32) {
-    let (kind, found, next) = match stop {
-        0 => rested,
-        10 => ended,
-        _ => torn,
-    };
-    (stop, kind, found, next)
-}
-
-#[test]
-fn a_stopped_first_publication_is_completed(rt: HostRuntime) {
-    for layout in [Layout::Two, Layout::Three] {
-        for stop in 0..11 {
-            assert_eq!(rt;
-                completed(rt.alloc(), 0, layout, stop),
-                Some(after(stop, ("fresh", 0, 2), ("torn", 1, 2), ("kept", 2, 4))),
-                "stop {stop} in {layout:?}"
-            );
-        }
-    }
-}
-
-#[test]
-fn a_stopped_publication_of_layout_two_is_completed(rt: HostRuntime) {
-    for (number, rested, torn, ended) in [
-        (2, ("kept", 2, 4), ("torn", 3, 4), ("kept", 4, 6)),
-        (3, ("torn", 3, 4), ("torn", 3, 4), ("kept", 4, 6)),
-        (
-            65_532,
-            ("kept", 65_532, 65_534),
-            ("torn", 65_533, 65_534),
-            ("kept", 65_534, 2),
-        ),
-        (
-            65_534,
-            ("kept", 65_534, 2),
-            ("torn", 65_535, 2),
-            ("kept", 2, 4),
-        ),
-        (
-            65_535,
-            ("torn", 65_535, 2),
-            ("torn", 65_535, 2),
-            ("kept", 2, 4),
-        ),
-    ] {
-        for stop in 0..11 {
-            assert_eq!(rt;
-                completed(rt.alloc(), word1(Layout::Two, number), Layout::Two, stop),
-                Some(after(stop, rested, torn, ended)),
-                "stop {stop} at {number}"
-            );
-        }
-    }
-}
-
-#[test]
-fn a_stopped_publication_of_layout_three_is_completed(rt: HostRuntime) {
-    for (number, rested, torn, ended) in [
-        (2, ("kept", 2, 4), ("torn", 3, 4), ("kept", 4, 6)),
-        (3, ("torn", 3, 4), ("torn", 3, 4), ("kept", 4, 6)),
-        (
-            65_532,
-            ("kept", 65_532, 65_534),
-            ("torn", 65_533, 65_534),
-            ("kept", 65_534, 65_536),
-        ),
-        (
-            65_534,
-            ("kept", 65_534, 65_536),
-            ("torn", 65_535, 65_536),
-            ("kept", 65_536, 65_538),
-        ),
-        (
-            65_535,
-            ("torn", 65_535, 65_536),
-            ("torn", 65_535, 65_536),
-            ("kept", 65_536, 65_538),
-        ),
-    ] {
-        for stop in 0..11 {
-            assert_eq!(rt;
-                completed(
-                    rt.alloc(),
-                    word1(Layout::Three, number),
-                    Layout::Three,
-                    stop
-                ),
-                Some(after(stop, rested, torn, ended)),
-                "stop {stop} at {number}"
-            );
-        }
-    }
-}
-
-// The first opening moves the segment, and what follows goes on in layout 3.
-#[test]
-fn a_stopped_publication_of_a_moved_segment_is_completed(rt: HostRuntime) {
-    for (number, rested, torn, ended) in [
-        (2, ("kept", 4, 6), ("torn", 5, 6), ("kept", 6, 8)),
-        (3, ("torn", 3, 4), ("torn", 3, 4), ("kept", 4, 6)),
-        (
-            65_534,
-            ("kept", 65_536, 65_538),
-            ("torn", 65_537, 65_538),
-            ("kept", 65_538, 65_540),
-        ),
-    ] {
-        for stop in 0..11 {
-            assert_eq!(rt;
-                completed(rt.alloc(), word1(Layout::Two, number), Layout::Three, stop),
-                Some(after(stop, rested, torn, ended)),
-                "stop {stop} at {number}"
-            );
-        }
-    }
 }
 
 #[test]
