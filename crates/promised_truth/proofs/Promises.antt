@@ -6,13 +6,12 @@ use Rattle.interval_now.specs.declared.answers.Timed.{Timed}
 use Rattle.abstract_run.specs.declared.event.Event.{Event}
 use Rattle.abstract_run.specs.declared.event.Trail.{Trail}
 use Rattle.abstract_run.specs.RunFacts.{PublishedEvent}
-use Rattle.abstract_run.specs.HostRun.{clocks_at}
+use Rattle.abstract_run.specs.HostRun.{clocks_at, marker_at}
 use Rattle.abstract_run.specs.Given.{CanRun}
 use Rattle.promise_judge.specs.Containment as judge
 use Rattle.kept_promises.specs.Kept.{ArePromisesKept}
 use Rattle.kept_promises.specs.Rows.{Disrupts, ChangesMarker, HasMark, IsNewMarker}
 use Rattle.run_promises.specs.Judged.{poll_claim}
-use Rattle.run_promises.specs.Told.{marker_at}
 use Rattle.run_promises.proofs.PageMarkers.{judge_marker}
 use Rattle.promised_truth.specs.Promised.{IsBasedOn, KeepsPromises}
 

@@ -6,7 +6,8 @@ use Rattle.segment_layout.specs.declared.publication.Publication.{Publication}
 use Rattle.abstract_run.specs.declared.event.Event.{Event}
 use Rattle.abstract_run.specs.declared.event.Event.TheVariants.{Opened, Moved, Published, Skipped, Stopped, Answered}
 use Rattle.abstract_run.specs.RunFacts.{PublishedEvent, told_at, told_by, AllEarlier, AllTell}
-use Rattle.run_promises.specs.Told.{marker_at, IsMarked, KeepsMarker, PublicationTells, AllMarked, IsFresh, KnowsPoll}
+use Rattle.abstract_run.specs.HostRun.{marker_at}
+use Rattle.run_promises.specs.Told.{IsMarked, KeepsMarker, PublicationTells, AllMarked, IsFresh, KnowsPoll}
 use Rattle.run_promises.proofs.Marks.{mark_later}
 use Rattle.run_promises.proofs.DaemonStates.{AreSame, mark_same}
 

@@ -19,14 +19,14 @@ use Rattle.interval_now.specs.Interval.{interval_of}
 use Rattle.abstract_run.specs.declared.event.Event.{Event}
 use Rattle.abstract_run.specs.declared.event.Trail.{Trail}
 use Rattle.abstract_run.specs.Run.{client_start}
-use Rattle.abstract_run.specs.HostRun.{HostRun, clocks_at, pages_at, page_shown, marker_of, sequence_of}
+use Rattle.abstract_run.specs.HostRun.{HostRun, clocks_at, pages_at, page_shown, marker_of, sequence_of, marker_at}
 use Rattle.abstract_run.specs.PageReading.{PageTry, PageAfter, Looks, Saw, Missed, page_load, is_marker_next}
 use Rattle.abstract_run.specs.DaemonRun.{marked_by}
 use Rattle.abstract_run.specs.ClientRun as run_client
 use Rattle.abstract_run.specs.ClientRun.{SegmentAfter, Reads, IsWhole, Unpublished, AllFailed, segment_load, segment_reading, WholeRead, Clocked, CallStage, Reading, Clocking, Paging, Answered, CallAfter, Goes, Answers, CallRun, ClientRun, ClientTurn}
 use Rattle.abstract_run.proofs.AnswerOf.{IsTimeOf, IsAnswer, IsReadOf, StandsIn, PageFits, FitsIn, LeavesOf, step_of}
 use Rattle.abstract_run.proofs.RunFactsClient.{CallFits, StageFits}
-use Rattle.run_promises.specs.Told.{marker_at, AnswerTells, IsByPublication}
+use Rattle.run_promises.specs.Told.{AnswerTells, IsByPublication}
 use Rattle.run_promises.proofs.PageReads.{LookFits, LookAfter, look_later, look_fits}
 use Rattle.run_promises.proofs.Segments.{entry_at, IsEntry, AllStand, entry_more, told_stands}
 use Rattle.run_promises.proofs.DaemonStates.{Later}

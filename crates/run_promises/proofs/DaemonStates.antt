@@ -13,10 +13,10 @@ use Rattle.status_machine.proofs.BaseMarker.{marker_before}
 use Rattle.segment_run.specs.SegmentRun.{SegmentRun}
 use Rattle.abstract_run.specs.declared.event.Event.{Event}
 use Rattle.abstract_run.specs.declared.event.Event.TheVariants.{Published}
-use Rattle.abstract_run.specs.HostRun.{HostRun}
+use Rattle.abstract_run.specs.HostRun.{HostRun, marker_at}
 use Rattle.abstract_run.specs.DaemonRun.{Life, Work, Resting, Opening, Asking, Looking, Taking, Writing, DaemonRun}
 use Rattle.abstract_run.specs.RunFacts.{PublishedEvent, told_at, told_by}
-use Rattle.run_promises.specs.Told.{marker_at, IsMarked, IsMarkOf, KeepsMarker, AllMarked, IsFresh, KnowsPoll}
+use Rattle.run_promises.specs.Told.{IsMarked, IsMarkOf, KeepsMarker, AllMarked, IsFresh, KnowsPoll}
 use Rattle.run_promises.proofs.Marks.{BaseMarked, LifeMarked, LifeKnown}
 use Rattle.run_promises.proofs.PageReads.{LookFits}
 use Rattle.run_promises.proofs.Segments.{entry_at, AllStand}

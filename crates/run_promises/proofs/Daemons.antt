@@ -23,14 +23,14 @@ use Rattle.segment_run.specs.SegmentRun.{SegmentRun, opening_effect, opening_len
 use Rattle.abstract_run.specs.RunWhole.{is_resting}
 use Rattle.abstract_run.specs.declared.event.Event.{Event}
 use Rattle.abstract_run.specs.declared.event.Event.TheVariants.{Opened, Moved, Published, Skipped, Stopped}
-use Rattle.abstract_run.specs.HostRun.{HostRun, clocks_at, pages_at, page_shown, marker_of, marker_by}
+use Rattle.abstract_run.specs.HostRun.{HostRun, clocks_at, pages_at, page_shown, marker_of, marker_by, marker_at}
 use Rattle.abstract_run.specs.PageReading.{PageAfter, Looks, Saw, Missed, page_load, is_marker_next}
 use Rattle.abstract_run.specs.DaemonRun as run_daemon
 use Rattle.abstract_run.specs.DaemonRun.{Life, Asked, Storing, Work, Resting, Opening, Asking, Looking, Taking, Writing, DaemonRun, DaemonTurn, daemon_turn, marked_by}
 use Rattle.status_machine.specs.Base.{base_number}
 use Rattle.abstract_run.specs.RunFacts.{PublishedEvent, told_at, AllEarlier}
 use Rattle.abstract_run.proofs.RunFactsDaemon.{next_number, WorkFits, opening_some}
-use Rattle.run_promises.specs.Told.{marker_at, IsMarkOf, KeepsMarker, AllMarked, IsFresh, KnowsPoll}
+use Rattle.run_promises.specs.Told.{IsMarkOf, KeepsMarker, AllMarked, IsFresh, KnowsPoll}
 use Rattle.run_promises.proofs.PollNumbers.{Numbered, IsBegun}
 use Rattle.run_promises.proofs.Marks.{BaseMarked, LifeMarked, poll_marked, BaseKnown, poll_known}
 use Rattle.run_promises.proofs.PageReads.{LookAfter, look_fits}

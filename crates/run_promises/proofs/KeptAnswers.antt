@@ -17,6 +17,7 @@ use Rattle.abstract_run.specs.declared.event.Trail.{Trail}
 use Rattle.abstract_run.specs.RunFacts.{PublishedEvent, told_at, told_by, StoodBy, is_image_at, AnsweredTells, AllTell, AllBased, given_by, is_kept_at}
 use Rattle.abstract_run.specs.Given.{CanRun}
 use Rattle.abstract_run.proofs.RunFactsLaws.{EndedFits, by_fits, BaseStands, base_stands}
+use Rattle.abstract_run.specs.HostRun.{marker_at}
 use Rattle.promise_judge.specs.declared.claim.Claim.{Claim}
 use Rattle.promise_judge.specs.declared.fault.Fault.{Fault}
 use Rattle.promise_judge.specs.declared.fault.Why.{Why}
@@ -28,7 +29,7 @@ use Rattle.promise_judge.proofs.Contained.{kept_contains}
 use Rattle.promise_judge.proofs.Places.{told_fits}
 use Rattle.run_promises.specs.declared.premises.Premises.{Premises}
 use Rattle.run_promises.specs.declared.premises.Premises.TheVariants.{Held, Failed}
-use Rattle.run_promises.specs.Told.{marker_at, IsMarkOf, IsByPublication, AllMarked, IsFresh}
+use Rattle.run_promises.specs.Told.{IsMarkOf, IsByPublication, AllMarked, IsFresh}
 use Rattle.run_promises.specs.Judged.{image_claim, poll_claim, claim_by_base, claim_by, is_trusted, judged, verdict_of, judged_answer, failed_or, premises_by, EachTrusted, FitsJudge, ContainsTruth, KeepsPromise, AnswersFitJudge, KeptAnswersContainTruth, HeldRunsContainTruth, IsByPoll, FollowsPoll, AnswersFollowPolls, HasPoll, FreshRunsHavePolls}
 use Rattle.run_promises.proofs.FreshRuns.{none_moved, made_few}
 use Rattle.run_promises.proofs.AnyRun.{any_tells, any_marks}

@@ -20,9 +20,9 @@ use Rattle.abstract_run.specs.declared.event.Event.{Event}
 use Rattle.abstract_run.specs.declared.event.Event.TheVariants.{Published}
 use Rattle.abstract_run.specs.DaemonRun.{Life}
 use Rattle.abstract_run.specs.RunFacts.{PublishedEvent, told_by, AllEarlier}
-use Rattle.abstract_run.specs.HostRun.{marker_by}
+use Rattle.abstract_run.specs.HostRun.{marker_by, marker_at}
 use Rattle.abstract_run.proofs.RunFactsBases.{told_below, other_found}
-use Rattle.run_promises.specs.Told.{marker_at, IsMarkOf}
+use Rattle.run_promises.specs.Told.{IsMarkOf}
 
 -- ---- a poll that doesn't mark leaves a mark as it is, unless it is good
 

@@ -5,10 +5,9 @@ use Rattle.clock_gate.specs.declared.trace.HostRow.{HostRow}
 use Rattle.clock_gate.specs.declared.trace.HostRow.TheVariants.{Clock, Page, Disrupt}
 use Rattle.clock_gate.specs.declared.trace.Trace.{Trace}
 use Rattle.vmclock_page.specs.Rows.{ArePageRows}
-use Rattle.abstract_run.specs.HostRun.{page_rows, pages_at, marker_of, marker_by}
+use Rattle.abstract_run.specs.HostRun.{page_rows, pages_at, marker_of, marker_by, marker_at}
 use Rattle.promise_judge.specs.Markers.{start_marker, marker_after}
 use Rattle.promise_judge.specs.Containment as judge
-use Rattle.run_promises.specs.Told.{marker_at}
 
 page_by : (words : List ℕ) (rows : List HostRow) (done : ℕ) → marker_after (Some (slice_index words 2)) (take done rows)
     ≡ Some (slice_index (slice_index_or (words ∷ page_rows rows) (length (page_rows (take done rows))) []) 2)

@@ -8,8 +8,7 @@ use Rattle.clock_gate.specs.declared.trace.Trace.{Trace}
 use Rattle.segment_layout.specs.Record.{RecordFields}
 use Rattle.status_machine.specs.Incarnation as incarnation
 use Rattle.interval_now.specs.Interval.{is_disrupted, is_unabsorbed, client_status, status_by_age}
-use Rattle.abstract_run.specs.HostRun.{marker_by}
-use Rattle.run_promises.specs.Told.{marker_at}
+use Rattle.abstract_run.specs.HostRun.{marker_by, marker_at}
 use Rattle.run_promises.specs.Judged.{is_trusted}
 
 trusted_calm : (unabsorbed : Bool) (status : ClockStatus) → is_trusted (if unabsorbed then Disrupted else status) ≡ true → unabsorbed ≡ false

@@ -18,11 +18,7 @@ use Rattle.abstract_run.specs.declared.event.Event.{Event}
 use Rattle.abstract_run.specs.declared.event.Event.TheVariants.{Moved, Published, Answered}
 use Rattle.abstract_run.specs.declared.event.Trail.{Trail}
 use Rattle.abstract_run.specs.RunFacts.{PublishedEvent, told_at, told_by}
-use Rattle.abstract_run.specs.HostRun.{marker_by}
-
--- the page's marker when so many rows of the host were done, where there is a page
-abbrev pub marker_at : Trace → (done : ℕ) → Option ℕ
-marker_at trace done = marker_by trace done trace.page
+use Rattle.abstract_run.specs.HostRun.{marker_at}
 
 -- ---- publications
 
