@@ -50,11 +50,14 @@ pub record OpensNext (trace : Trace) (p : DaemonPlace) (poll : ℕ) (start : Sta
 
 -- ---- a poll
 
--- what the daemon goes on with: after a finished publication with a stop, and after a stop in between, it is stopped; after a poll
--- that was skipped it is what it was
+-- after a finished publication with a stop the daemon is stopped
+abbrev pub unless_stopped : Option ℕ → Daemon → Option Daemon
+unless_stopped None daemon = Some daemon
+unless_stopped (Some stop) daemon = None
+
+-- what the daemon goes on with: after a stop in between it is stopped too, and after a poll that was skipped it is what it was
 abbrev pub goes_on : Option ℕ → Daemon → Polled → Option Daemon
-goes_on None before (polls.Published daemon publication) = Some daemon
-goes_on (Some stop) before (polls.Published daemon publication) = None
+goes_on stop before (polls.Published daemon publication) = unless_stopped stop daemon
 goes_on stop before (polls.Skipped first last) = Some before
 goes_on stop before (polls.Stopped stores) = None
 

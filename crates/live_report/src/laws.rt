@@ -1,6 +1,9 @@
 //! What a run of threads is worth.
 ghost use Rattle.live_report.specs.LiveLaws.{LiveReportsAreLawful, HistoriesAreOfLines};
 
+use lawful_report::report_laws;
+use segment_rule::answer_laws;
+
 /// What every run of a trace comes to, whatever order the steps of its parties took.
 ///
 /// `lawful`: the report of its lines is lawful, where the trace has fewer polls than the layout's period. `history`: the daemon's
@@ -8,4 +11,7 @@ ghost use Rattle.live_report.specs.LiveLaws.{LiveReportsAreLawful, HistoriesAreO
 pub fn live_laws()
     ensures lawful { LiveReportsAreLawful }
     ensures history { HistoriesAreOfLines }
-{}
+{
+    answer_laws();
+    report_laws();
+}
