@@ -46,7 +46,7 @@ use Rattle.std.proofs.lemmas.Bool.{eq-eqb}
 use Rattle.segment_views.specs.declared.setup.Setup.{Setup}
 use Rattle.segment_views.specs.Seats.{IsSetup, IsOpening, opener, without_host}
 use Rattle.segment_views.proofs.SeatLaws.{opens}
-use Rattle.segment_rule.specs.Opens.{OpenAt, generation_by, generation_after, history_opened, is_header, TellsOpen, MayOpen, IsDaemonPart, marked_of, headed_of, move_of, moved_of, opened_of, Reopens}
+use Rattle.segment_rule.specs.Opens.{OpenAt, generation_by, generation_after, moved_by, history_opened, is_header, TellsOpen, MayOpen, IsDaemonPart, marked_of, headed_of, move_of, moved_of, opened_of, Reopens}
 
 -- ---- the steps of an opening, by what it found
 
@@ -162,6 +162,7 @@ pub record IsUnderWay (v : SeatView) (state : OpenerState) (w : SeatView) : Type
   pub daemon : w.is_daemon ≡ true
   pub setup : w.setup ≡ v.setup
   pub calls : w.calls ≡ calls_of v
+  pub before : w.before ≡ v.seen
   pub begun : 0 < length state.values
   pub replays : Wanted opening_act opening_given (new_opener v.setup.layout) (touches_of w.steps) × (replayed opening_act opening_given (new_opener v.setup.layout) (touches_of w.steps) ≡ state)
   pub sound : IsSoundCall w
@@ -242,6 +243,7 @@ under_load v w x state word n own daemon u act started t =
         daemon = l.is_daemon ∙ u.daemon;
         setup = l.setup ∙ u.setup;
         calls = l.calls ∙ u.calls;
+        before = l.before ∙ u.before;
         begun = omega (arith, more);
         replays = replays_load v.setup.layout state (touches_of w.steps) (touches_of x.steps) word n act (stepping.more_touches w x word n l) u.replays;
         sound = ran_more w x word n l u.sound;
@@ -285,6 +287,7 @@ under_first v x n own daemon t =
         daemon = l.is_daemon ∙ daemon;
         setup = l.setup;
         calls = l.calls;
+        before = l.before;
         begun = omega arith;
         replays = first_replays v.daemon_part.segment.layout v.setup.layout (touches_of x.steps) n own.layout (ap touches_of l.steps);
         sound = ran_first v x 0 n l;
@@ -539,6 +542,7 @@ under_store v w x state word value own u act t =
         daemon = s.is_daemon ∙ u.daemon;
         setup = s.setup ∙ u.setup;
         calls = s.calls ∙ u.calls;
+        before = s.before ∙ u.before;
         begun = omega (arith, more);
         replays = replays_store v.setup.layout state (touches_of w.steps) (touches_of x.steps) word value act (ap touches_of s.steps ∙ touches-snoc w.steps (stored word value (point_of x.daemon_part.segment))) u.replays;
         sound = sound_stored w x word value s u.sound;
@@ -624,12 +628,6 @@ loads_whole h values image loads v i most =
 
 same_opening : (a b : Opening) → Some a ≡ Some b → a ≡ b
 same_opening a b e = cc
-
--- the number of the move, by what was found
-abbrev pub moved_by : Start → (old : Bool) → ℕ → Option ℕ
-moved_by Fresh old generation = None
-moved_by (Torn h) old generation = None
-moved_by (Kept h rec) old generation = opening.moved_to old generation
 
 moved_are : (segment : SegmentRun) (layout : Layout) (start : Start) (values : List ℕ) → slice_index values 1 ≡ header_shown segment → IsSegment segment → Finds segment start
     → (opening_for layout values).moved ≡ moved_by start (is_old_header layout (header_shown segment)) (number_shown segment)
@@ -734,11 +732,13 @@ reopened v w state answer own u act told =
       record {
         setup = u.setup;
         calls = u.calls;
+        before = u.before;
         steps = u.replays.0;
         answer = ap opening_end u.replays.1 ∙ told;
         start = start;
         sound = u.sound;
         points = u.points;
+        moved = moved;
         history = ap (λ (p : DaemonPart). p.segment.history) part
             ∙ (opened_history (start_found v.daemon_part.segment) (is_old_header v.daemon_part.segment.layout (header_shown v.daemon_part.segment)) (number_shown v.daemon_part.segment) v.daemon_part
             ∙ ap (λ (m : Option ℕ). history_opened m v.daemon_part.segment) (sym moved));

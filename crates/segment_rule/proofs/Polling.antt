@@ -1,7 +1,7 @@
 -- A poll that is under way, and what one step more makes of it.
-use Rattle.std.proofs.Common.{◌≡◌, ◌≢◌, ℕ, ◌+◌, ◌-◌, ◌*◌, ◌%◌, ◌<◌, ◌≤◌, inl, inr, Bool, true, false, List, [], ◌∷◌, ◌++◌, length, refl, sym, ap, ◌∙◌, subst, arith, Option, Some, None}
+use Rattle.std.proofs.Common.{◌≡◌, ◌≢◌, ℕ, ◌+◌, ◌-◌, ◌*◌, ◌%◌, ◌<◌, ◌≤◌, inl, inr, Bool, true, false, List, [], ◌∷◌, ◌++◌, length, refl, sym, ap, ◌∙◌, subst, ne_eqb, arith, Option, Some, None}
 use Rattle.std.specs.Prelude.{◌==◌, if◌then◌else◌, IfSome, is_some}
-use Rattle.std.proofs.lemmas.Bool.{cases_eq, eqb-true}
+use Rattle.std.proofs.lemmas.Bool.{cases_eq, eqb-true, eq-eqb}
 use Rattle.std.proofs.lemmas.Option.{slice_get-get_or}
 use Rattle.clock_gate.specs.declared.act.Act.{Act}
 use Rattle.clock_gate.specs.declared.act.Act.TheVariants.{Load, Store}
@@ -54,7 +54,7 @@ use Rattle.segment_views.proofs.Shown.{touches-snoc, ran_first, ran_more, sound_
 use Rattle.segment_views.proofs.Told.{daemon_stores}
 use Rattle.segment_rule.specs.Ruled.{TellsLoad, MayLoadWord}
 use Rattle.segment_rule.specs.Opens.{IsDaemonPart, OpenAt}
-use Rattle.segment_rule.specs.Polls.{entry_in, TellsPoll, MayPoll, order_for, MayBegin, history_after, OpenAfter, SupportAfter, Polls}
+use Rattle.segment_rule.specs.Polls.{entry_in, TellsPoll, MayPoll, order_for, MayBegin, history_after, LeavesSegment, OpenAfter, SupportAfter, Polls}
 use Rattle.segment_rule.proofs.Stepping.{by_test, loads_told, touch_at, more_touches}
 use Rattle.segment_rule.proofs.Opening.{stored_touch}
 use Rattle.segment_rule.proofs.PageSeen.{page_found, page_bound, none_bound}
@@ -77,6 +77,7 @@ pub record IsPolling (clock : List ClockRow) (order : Order) (v : SeatView) (p :
   pub daemon : w.is_daemon ≡ true
   pub setup : w.setup ≡ v.setup
   pub calls : w.calls ≡ calls_of v
+  pub before : w.before ≡ v.seen
   pub same_order : p.order ≡ order
   pub stage : IsPollStage order p.stage
   pub fits : StageFits p.stage
@@ -206,6 +207,7 @@ polling_first clock order v x n may t =
       daemon = l.is_daemon ∙ may.daemon;
       setup = l.setup;
       calls = l.calls;
+      before = l.before;
       same_order = refl;
       stage = (stage_nearer clock order stages.Asking n tt (λ e. cc e)).0;
       fits = ties.0;
@@ -233,6 +235,7 @@ polling_load clock order v w x p word n may u act t =
       daemon = l.is_daemon ∙ u.daemon;
       setup = l.setup ∙ u.setup;
       calls = l.calls ∙ u.calls;
+      before = l.before ∙ u.before;
       same_order = u.same_order;
       stage = moved (λ (s : Stage). IsPollStage order s) next;
       fits = moved StageFits ties.0;
@@ -323,6 +326,7 @@ module _ (clock : List ClockRow) (order : Order) (v w : SeatView) (p : Polling) 
         daemon = s.is_daemon ∙ u.daemon;
         setup = s.setup ∙ u.setup;
         calls = s.calls ∙ u.calls;
+        before = s.before ∙ u.before;
         same_order = u.same_order;
         stage = moved (λ (st : Stage). IsPollStage order st) next;
         fits = moved StageFits fits;
@@ -395,11 +399,74 @@ ended_by (Stopped number) clock order v w p may u told =
     let cause = (stopped p number stage).0 told in
     (stopped_history p.order p.stage number v w cause (subst (λ (o : Order). Ties v o p.stage w) (sym u.same_order) u.ties), ap (λ (o : Order). o.stop) (sym u.same_order) ∙ stopped_at p.order p.stage number cause, tt)
 
+same_leaves : (a b : DaemonPart) → b ≡ a → (first last : ℕ) → LeavesSegment (Skipped first last) a.segment b.segment
+same_leaves a b same first last =
+    record {
+      layout = ap (λ (p : DaemonPart). p.segment.layout) same;
+      image = ap (λ (p : DaemonPart). p.segment.image) same;
+      base = ap (λ (p : DaemonPart). p.segment.base) same;
+      position = ap (λ (p : DaemonPart). p.segment.position) same;
+      writing = ap (λ (p : DaemonPart). p.segment.is_writing) same;
+      headed = ap (λ (p : DaemonPart). p.segment.is_headed) same;
+    }
+
+stopped_leaves : (order : Order) (stage : Stage) (number : ℕ) (v w : SeatView) → IsStopped order stage number → Ties v order stage w → LeavesSegment (Stopped number) v.daemon_part.segment w.daemon_part.segment
+stopped_leaves order stages.Asking number v w is ties = absurd is
+stopped_leaves order (stages.Looking asked read) number v w is ties = absurd is
+stopped_leaves order (stages.Taking asked seen) number v w is ties = absurd is
+stopped_leaves order (stages.Storing taken update) number v w is ties =
+    let made = is.1.1 in
+    let few = is.1.0 in
+    elim (cases_eq update.made 0) [
+      | inl none ↦
+          let same = same_leaves v.daemon_part w.daemon_part (ties.1.before none) 0 0 in
+          let test : (number == 0) ≡ true = (let zero_is : number ≡ 0 = omega (arith, made, none) in eq-eqb number 0 zero_is) in
+          record {
+            layout = same.layout;
+            image = same.image;
+            base = same.base;
+            position = same.position;
+            writing = rw test same.writing;
+            headed = rw test same.headed;
+          }
+      | inr other ↦
+          let b = ties.1.between (omega arith) (omega (arith, made, few)) in
+          let test : (number == 0) ≡ false = ne_eqb number 0 (λ zero_is. other (made ∙ zero_is)) in
+          record {
+            layout = ties.1.layout;
+            image = ties.1.image;
+            base = ties.1.base;
+            position = b.2;
+            writing = rw test b.4;
+            headed = rw test b.5;
+          }
+    ]
+
+published_leaves : (order : Order) (stage : Stage) (daemon : Daemon) (publication : Publication) (v w : SeatView) → IsPublished stage daemon publication → Ties v order stage w → LeavesSegment (Published daemon publication) v.daemon_part.segment w.daemon_part.segment
+published_leaves order stages.Asking daemon publication v w is ties = absurd is
+published_leaves order (stages.Looking asked read) daemon publication v w is ties = absurd is
+published_leaves order (stages.Taking asked seen) daemon publication v w is ties = absurd is
+published_leaves order (stages.Storing taken update) daemon publication v w is ties =
+    let e = ties.1.ended is.0 in
+    record { layout = ties.1.layout; image = ties.1.image; base = ties.1.base; position = e.0; writing = e.2; headed = e.3 }
+
+-- what a poll leaves of the segment, by its answer
+leaves_by : (polled : Polled) (clock : List ClockRow) (order : Order) (v w : SeatView) (p : Polling) → MayBegin clock order v → IsPolling clock order v p w → polling_end p ≡ Some polled → LeavesSegment polled v.daemon_part.segment w.daemon_part.segment
+leaves_by polled clock order v w p may u told = by polled told
+  where
+    stage : IsPollStage p.order p.stage
+    stage = subst (λ (o : Order). IsPollStage o p.stage) (sym u.same_order) u.stage
+
+    by : (polled : Polled) → polling_end p ≡ Some polled → LeavesSegment polled v.daemon_part.segment w.daemon_part.segment
+    by (Published daemon publication) ends = published_leaves order p.stage daemon publication v w ((published p daemon publication stage).0 ends) u.ties
+    by (Skipped first last) ends = same_leaves v.daemon_part w.daemon_part (skipped_part order p.stage first last v w ((skipped p first last stage).0 ends) u.ties) first last
+    by (Stopped number) ends = stopped_leaves p.order p.stage number v w ((stopped p number stage).0 ends) (subst (λ (o : Order). Ties v o p.stage w) (sym u.same_order) u.ties)
+
 pub polled_at_end : (clock : List ClockRow) (order : Order) (v w : SeatView) (p : Polling) (polled : Polled) → MayBegin clock order v → IsPolling clock order v p w → polling_end p ≡ Some polled
     → Polls clock order v polled w × OpenAfter order.stop order.generation polled w × SupportAfter order.daemon.support polled
 polled_at_end clock order v w p polled may u told =
     let e = ended_by polled clock order v w p may u told in
-    (record { setup = u.setup; calls = u.calls; steps = u.wanted; answer = ap polling_end u.now ∙ told; sound = u.sound; points = u.points; history = e.0; cause = has_cause clock order (touches_of w.steps) p polled u.wanted u.now (subst (λ (o : Order). IsPollStage o p.stage) (sym u.same_order) u.stage) told }, e.1, e.2)
+    (record { setup = u.setup; calls = u.calls; before = u.before; steps = u.wanted; answer = ap polling_end u.now ∙ told; sound = u.sound; points = u.points; history = e.0; segment = leaves_by polled clock order v w p may u told; cause = has_cause clock order (touches_of w.steps) p polled u.wanted u.now (subst (λ (o : Order). IsPollStage o p.stage) (sym u.same_order) u.stage) told }, e.1, e.2)
 
 -- ---- its beginning
 

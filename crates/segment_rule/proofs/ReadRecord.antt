@@ -28,19 +28,19 @@ use Rattle.segment_rule.proofs.Times.{Parts, parts, same_head, sound_back, numbe
 -- ---- the try among the steps
 
 -- a step that is this load
-record Head (steps : List Step) (word value : ℕ) (touches : List Touch) : Type 0 where
-  shown : ℕ
-  rest : List Step
-  is : steps ≡ loaded word value shown ∷ rest
-  touches_are : touches_of rest ≡ touches
+pub record Head (steps : List Step) (word value : ℕ) (touches : List Touch) : Type 0 where
+  pub shown : ℕ
+  pub rest : List Step
+  pub is : steps ≡ loaded word value shown ∷ rest
+  pub touches_are : touches_of rest ≡ touches
 
-head : (steps : List Step) (word value : ℕ) (touches : List Touch) → touches_of steps ≡ load word value ∷ touches → Head steps word value touches
+pub head : (steps : List Step) (word value : ℕ) (touches : List Touch) → touches_of steps ≡ load word value ∷ touches → Head steps word value touches
 head [] word value touches e = absurd (cc e)
 head (s ∷ steps) word value touches e =
     let h = same_head s.touch (load word value) (touches_of steps) touches e in
     record { shown = s.shown; rest = steps; is = (λ j. record { touch = h.0 j; shown = s.shown } ∷ steps); touches_are = h.1 }
 
-record Split (steps : List Step) (word last row : ℕ) (words : List ℕ) : Type 0 where
+record Split (steps : List Step) (word last row : ℕ) (words : List ℕ) (later : List Touch) : Type 0 where
   front : List Step
   between : List Step
   back : List Step
@@ -49,8 +49,9 @@ record Split (steps : List Step) (word last row : ℕ) (words : List ℕ) : Type
   third : ℕ
   is : steps ≡ front ++ loaded 1 word first ∷ (between ++ loaded 1 last second ∷ loaded 23 row third ∷ back)
   loads : touches_of between ≡ loads_from 2 words
+  later_is : touches_of back ≡ later
 
-split : (steps : List Step) (before later : List Touch) (word last row : ℕ) (words : List ℕ) → touches_of steps ≡ before ++ (load 1 word ∷ (loads_from 2 words ++ load 1 last ∷ load 23 row ∷ later)) → Split steps word last row words
+split : (steps : List Step) (before later : List Touch) (word last row : ℕ) (words : List ℕ) → touches_of steps ≡ before ++ (load 1 word ∷ (loads_from 2 words ++ load 1 last ∷ load 23 row ∷ later)) → Split steps word last row words later
 split steps before later word last row words e =
     let p = parts steps before (load 1 word ∷ (loads_from 2 words ++ load 1 last ∷ load 23 row ∷ later)) e in
     let a = head p.back 1 word (loads_from 2 words ++ load 1 last ∷ load 23 row ∷ later) p.back_is in
@@ -69,23 +70,24 @@ split steps before later word last row words e =
           ∙ ap (λ (l : List Step). loaded 1 word a.shown ∷ l) (q.whole
           ∙ ap (λ (l : List Step). q.front ++ l) (b.is ∙ ap (λ (l : List Step). loaded 1 last b.shown ∷ l) c.is)));
       loads = q.front_is;
+      later_is = c.touches_are;
     }
 
 -- ---- what rises
 
 module _ (i : ℕ) (Stands : ℕ → ℕ → Type 0) where
   -- the rest of the steps rises from what was shown before it
-  record Rest (from : ℕ) (steps ys : List Step) : Type 0 where
-    to : ℕ
-    low : from ≤ to
-    rises : Rises i Stands to ys
-    last : last_shown i from steps ≡ last_shown i to ys
+  pub record Rest (from : ℕ) (steps ys : List Step) : Type 0 where
+    pub to : ℕ
+    pub low : from ≤ to
+    pub rises : Rises i Stands to ys
+    pub last : last_shown i from steps ≡ last_shown i to ys
 
   step_low : (b : Bool) (from shown value : ℕ) → When b (Stands value shown × (from ≤ shown)) → from ≤ next_shown b from shown
   step_low true from shown value h = h.1
   step_low false from shown value h = omega arith
 
-  rest : (from : ℕ) (xs ys : List Step) → Rises i Stands from (xs ++ ys) → Rest from (xs ++ ys) ys
+  pub rest : (from : ℕ) (xs ys : List Step) → Rises i Stands from (xs ++ ys) → Rest from (xs ++ ys) ys
   rest from [] ys r = record { to = from; low = omega arith; rises = r; last = refl }
   rest from (s ∷ xs) ys r =
       let low = step_low (is_load_of i s) from s.shown s.touch.value r.0 in
@@ -93,7 +95,7 @@ module _ (i : ℕ) (Stands : ℕ → ℕ → Type 0) where
       let next = more.low in
       record { to = more.to; low = omega (arith, low, next); rises = more.rises; last = more.last }
 
-  to_last : (from : ℕ) (steps : List Step) → Rises i Stands from steps → from ≤ last_shown i from steps
+  pub to_last : (from : ℕ) (steps : List Step) → Rises i Stands from steps → from ≤ last_shown i from steps
   to_last from [] r = omega arith
   to_last from (s ∷ steps) r =
       let low = step_low (is_load_of i s) from s.shown s.touch.value r.0 in
@@ -102,7 +104,7 @@ module _ (i : ℕ) (Stands : ℕ → ℕ → Type 0) where
 
 -- ---- the words
 
-try_loads : (k : ℕ) (words : List ℕ) (steps : List Step) (t : SegmentTry) → 2 ≤ k → touches_of steps ≡ loads_from k words → segment_try_after t steps ≡ record t { loads = t.loads ++ numbered k words }
+pub try_loads : (k : ℕ) (words : List ℕ) (steps : List Step) (t : SegmentTry) → 2 ≤ k → touches_of steps ≡ loads_from k words → segment_try_after t steps ≡ record t { loads = t.loads ++ numbered k words }
 try_loads k [] [] t up e = λ j. record t { loads = sym (append_nil t.loads) j }
   where
     append_nil : (l : List (ℕ × ℕ)) → l ++ [] ≡ l
@@ -168,18 +170,18 @@ row_follows : (c : Setup) (history : List Publication) (known : ℕ) (xs : List 
 row_follows c history known [] row shown ys are = are.0
 row_follows c history known (s ∷ xs) row shown ys are = row_follows c history (known_after c known s) xs row shown ys are.2
 
-follows_rest : (c : Setup) (history : List Publication) (known : ℕ) (xs ys : List Step) → FollowsFrom c history known (xs ++ ys) → FollowsFrom c history (known_through c known xs) ys
+pub follows_rest : (c : Setup) (history : List Publication) (known : ℕ) (xs ys : List Step) → FollowsFrom c history known (xs ++ ys) → FollowsFrom c history (known_through c known xs) ys
 follows_rest c history known [] ys are = are
 follows_rest c history known (s ∷ xs) ys are = follows_rest c history (known_after c known s) xs ys are.2
 
 -- ---- all of it
 
-module _ (v : SeatView) (sound : IsSoundCall v) (generation : ℕ) (rec : RecordFields) (row word : ℕ) (words : List ℕ) where
+module _ (v : SeatView) (sound : IsSoundCall v) (generation : ℕ) (rec : RecordFields) (row word : ℕ) (words : List ℕ) (later : List Touch) where
   abbrev c : Setup
   c = v.setup
 
   -- the steps, where both loads of word 1 found the same word
-  read_by : (s : Split v.steps word word row words) → length words ≡ 8 → generation ≡ generation_in word → rec ≡ record_in words → (generation_in word == 0) ≡ false → generation_in word % 2 ≡ 0 → HasRead v generation rec row
+  read_by : (s : Split v.steps word word row words later) → length words ≡ 8 → generation ≡ generation_in word → rec ≡ record_in words → (generation_in word == 0) ≡ false → generation_in word % 2 ≡ 0 → HasRead v generation rec row later
   read_by s eight generation_is rec_is some even =
       let points = subst (λ (l : List Step). Rises 1 (ShowsPoint c) v.before.point l) s.is sound.points.rises in
       let a = rest 1 (ShowsPoint c) v.before.point s.front (loaded 1 word s.first ∷ (s.between ++ loaded 1 word s.second ∷ loaded 23 row s.third ∷ s.back)) points in
@@ -213,6 +215,7 @@ module _ (v : SeatView) (sound : IsSoundCall v) (generation : ℕ) (rec : Record
         last = s.second;
         steps = s.is ∙ ap (λ (n : ℕ). s.front ++ loaded 1 word s.first ∷ (s.between ++ loaded 1 word s.second ∷ loaded 23 row n ∷ s.back)) third;
         loads = s.loads;
+        later_is = s.later_is;
         eight = eight;
         generation_is = generation_is;
         even = ap (λ (n : ℕ). n % 2) generation_is ∙ even;
@@ -229,7 +232,7 @@ module _ (v : SeatView) (sound : IsSoundCall v) (generation : ℕ) (rec : Record
           let zero_is : (number == 0) ≡ true = grind (arith, nat_tests, is) in absurd (cc (zero_is, some))
       published (suc generation) number is some = omega arith
 
-      whole : (s : Split v.steps word word row words) → length words ≡ 8 → rec ≡ record_in words → StandsEven c word s.first → base_of c < s.first / 2 → s.first ≤ s.second → s.third ≡ row
+      whole : (s : Split v.steps word word row words later) → length words ≡ 8 → rec ≡ record_in words → StandsEven c word s.first → base_of c < s.first / 2 → s.first ≤ s.second → s.third ≡ row
           → s.second / 2 < s.first / 2 + period_of c.layout → (s.second ≡ s.first) × IsEntry v (s.first / 2) rec row
       whole s eight rec_is front_is above order third near =
           let sounds = subst (SoundFrom c v.seen.history no_segment_try) s.is sound.sound in
@@ -257,7 +260,7 @@ same_word : (first last : ℕ) → (first == last) ≡ true → last ≡ first
 same_word first last is = grind (arith, nat_tests, is)
 
 -- the record that a call read before it loaded the clock
-pub has_read : (v : SeatView) (tries generation : ℕ) (rec : RecordFields) (row : ℕ) (later : List Touch) → IsSoundCall v → ReadsThenClock tries (touches_of v.steps) generation rec row later → HasRead v generation rec row
+pub has_read : (v : SeatView) (tries generation : ℕ) (rec : RecordFields) (row : ℕ) (later : List Touch) → IsSoundCall v → ReadsThenClock tries (touches_of v.steps) generation rec row later → HasRead v generation rec row later
 has_read v tries generation rec row later sound reads =
     let r = reads.reads in
     let finds = r.finds in
@@ -269,5 +272,5 @@ has_read v tries generation rec row later sound reads =
     ∙ ap (λ (l : List Touch). steps_of_all segment_lock finds.failed ++ load 1 r.first ∷ l) (append_assoc (loads_from 2 r.words) (load 1 finds.last ∷ []) (load 23 row ∷ later)) in
     let same : touches_of v.steps ≡ steps_of_all segment_lock finds.failed ++ (load 1 r.first ∷ (loads_from 2 r.words ++ load 1 r.first ∷ load 23 row ∷ later)) =
     made ∙ ap (λ (n : ℕ). steps_of_all segment_lock finds.failed ++ (load 1 r.first ∷ (loads_from 2 r.words ++ load 1 n ∷ load 23 row ∷ later))) last_is in
-    read_by v sound generation rec row r.first r.words (split v.steps (steps_of_all segment_lock finds.failed) later r.first r.first row r.words same)
+    read_by v sound generation rec row r.first r.words later (split v.steps (steps_of_all segment_lock finds.failed) later r.first r.first row r.words same)
     finds.whole r.generation_is r.rec_is finds.calm.published finds.calm.even

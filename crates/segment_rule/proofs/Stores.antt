@@ -89,6 +89,8 @@ no_load rec layout generation (suc made) word e = elim (cases_lt (suc made) 9) [
 -- after so many stores of a publication, the first of which found this
 pub record AfterStores (e : Publication) (made : ℕ) (s o : DaemonPart) : Type 0 where
   pub layout : o.segment.layout ≡ s.segment.layout
+  pub image : o.segment.image ≡ s.segment.image
+  pub base : o.segment.base ≡ s.segment.base
   pub before : made ≡ 0 → o ≡ s
   pub between : 0 < made → made < 10
       → (o.hand.publication ≡ e) × (o.hand.stores ≡ made) × (o.segment.position ≡ s.segment.position) × (o.segment.history ≡ s.segment.history) × (o.segment.is_writing ≡ true) × (o.segment.is_headed ≡ true)
@@ -98,6 +100,8 @@ pub record AfterStores (e : Publication) (made : ℕ) (s o : DaemonPart) : Type 
 pub none_stored : (e : Publication) (s o : DaemonPart) → o ≡ s → AfterStores e 0 s o
 none_stored e s o same = record {
   layout = ap (λ (p : DaemonPart). p.segment.layout) same;
+  image = ap (λ (p : DaemonPart). p.segment.image) same;
+  base = ap (λ (p : DaemonPart). p.segment.base) same;
   before = λ _. same;
   between = λ more few. absurd (omega arith);
   ended = λ ten. absurd (omega arith);
@@ -158,6 +162,8 @@ module _ (e : Publication) (v w : SeatView) (generation made word value : ℕ) w
       let part : x.daemon_part ≡ update_begun e w = ap (λ (y : SeatView). y.daemon_part) told.view in
       record {
         layout = ap (λ (p : DaemonPart). p.segment.layout) part ∙ after.layout;
+        image = ap (λ (p : DaemonPart). p.segment.image) part ∙ after.image;
+        base = ap (λ (p : DaemonPart). p.segment.base) part ∙ after.base;
         before = λ zero_made. absurd (omega arith);
         between = λ more few. (
           ap (λ (p : DaemonPart). p.hand.publication) part,
@@ -176,6 +182,8 @@ module _ (e : Publication) (v w : SeatView) (generation made word value : ℕ) w
       let part : x.daemon_part ≡ update_filled word w = ap (λ (y : SeatView). y.daemon_part) told.view in
       record {
         layout = ap (λ (p : DaemonPart). p.segment.layout) part ∙ after.layout;
+        image = ap (λ (p : DaemonPart). p.segment.image) part ∙ after.image;
+        base = ap (λ (p : DaemonPart). p.segment.base) part ∙ after.base;
         before = λ zero_made. absurd (omega arith);
         between = λ more few. (
           ap (λ (p : DaemonPart). p.hand.publication) part ∙ b.0,
@@ -200,6 +208,8 @@ module _ (e : Publication) (v w : SeatView) (generation made word value : ℕ) w
       let part : x.daemon_part ≡ update_ended w = ap (λ (y : SeatView). y.daemon_part) told.view in
       record {
         layout = ap (λ (p : DaemonPart). p.segment.layout) part ∙ after.layout;
+        image = ap (λ (p : DaemonPart). p.segment.image) part ∙ after.image;
+        base = ap (λ (p : DaemonPart). p.segment.base) part ∙ after.base;
         before = λ zero_made. absurd (omega arith);
         between = λ more few. absurd (omega (arith, few, nine));
         ended = λ ten. (

@@ -30,10 +30,11 @@ pub record IsEntry (v : SeatView) (position : ℕ) (rec : RecordFields) (row : �
   pub replied : (entry_at v.setup v.seen.history position).replied ≤ row
 
 -- a record was read under this generation, and then the clock at this row. Among the call's steps are the ten loads of one try: word 1, words
--- 2 to 9, which are this record's, and the same word 1 again, with an even generation other than 0; and just after them the load of word 23.
+-- 2 to 9, which are this record's, and the same word 1 again, with an even generation other than 0; and just after them the load of word 23,
+-- and after it these steps.
 -- The first load showed a point whose number that is, no lower than any that was seen before the call, and the last one no lower than that.
 -- With fewer publications between the two than the layout's period there was none, and the record is that of the history at the front
-pub record HasRead (v : SeatView) (generation : ℕ) (rec : RecordFields) (row : ℕ) : Type 0 where
+pub record HasRead (v : SeatView) (generation : ℕ) (rec : RecordFields) (row : ℕ) (later : List Touch) : Type 0 where
   pub front : List Step
   pub between : List Step
   pub back : List Step
@@ -43,6 +44,7 @@ pub record HasRead (v : SeatView) (generation : ℕ) (rec : RecordFields) (row :
   pub last : ℕ
   pub steps : v.steps ≡ front ++ loaded 1 word first ∷ (between ++ loaded 1 word last ∷ loaded 23 row row ∷ back)
   pub loads : touches_of between ≡ loads_from 2 words
+  pub later_is : touches_of back ≡ later
   pub eight : length words ≡ 8
   pub generation_is : generation ≡ generation_in word
   pub even : generation % 2 ≡ 0
@@ -62,8 +64,8 @@ IsPageRead tries true later marker sequence =
 -- an interval: by the record, the clock's row and the page's marker that were read
 pub record IsTimed (clock : List ClockRow) (tries : ℕ) (v : SeatView) (timed : Timed) : Type 0 where
   pub rec : RecordFields
-  pub read : HasRead v timed.generation rec timed.row
   pub later : List Touch
+  pub read : HasRead v timed.generation rec timed.row later
   pub after : ReadsThenClock tries (touches_of v.steps) timed.generation rec timed.row later
   pub marker : Option ℕ
   pub page : IsPageRead tries (is_some v.setup.page) later marker timed.sequence
@@ -75,8 +77,8 @@ pub record IsEarly (clock : List ClockRow) (tries : ℕ) (v : SeatView) (causali
   pub generation : ℕ
   pub rec : RecordFields
   pub row : ℕ
-  pub read : HasRead v generation rec row
   pub later : List Touch
+  pub read : HasRead v generation rec row later
   pub after : ReadsThenClock tries (touches_of v.steps) generation rec row later
   pub marker : Option ℕ
   pub sequence : ℕ
@@ -90,8 +92,8 @@ pub record IsPageBusy (tries : ℕ) (v : SeatView) (first last : ℕ) : Type 0 w
   pub generation : ℕ
   pub rec : RecordFields
   pub row : ℕ
-  pub read : HasRead v generation rec row
   pub later : List Touch
+  pub read : HasRead v generation rec row later
   pub after : ReadsThenClock tries (touches_of v.steps) generation rec row later
   pub fails : FailsAlways page_lock tries later first last
 

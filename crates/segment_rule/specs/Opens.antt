@@ -11,7 +11,7 @@ use Rattle.segment_run.specs.SegmentRun.{SegmentRun, published_at, headed, opene
 use Rattle.generation_word.specs.Header.{generation_in}
 use Rattle.segment_run.specs.ShowsSegment.{IsSegment}
 use Rattle.writer_reopen.specs.declared.opening.Opening.{Opening}
-use Rattle.writer_reopen.specs.Opening.{new_opener, opening_act, opening_given, opening_end}
+use Rattle.writer_reopen.specs.Opening.{moved_to, new_opener, opening_act, opening_given, opening_end}
 use Rattle.segment_views.specs.Views.{DaemonPart, SeatView, no_update, point_of}
 use Rattle.segment_views.specs.Steps.{Tells, TellsDaemonPart, HasMagic, with_magic, with_head, move_begun, move_ended, calls_of}
 use Rattle.segment_views.specs.Shown.{touches_of, IsSoundCall, PointsFollow}
@@ -81,20 +81,28 @@ generation_by (Some generation) start = generation
 abbrev pub generation_after : Opening → ℕ
 generation_after opening = generation_by opening.moved opening.start
 
+-- the number of the move, where an opening under an old header finds a record
+abbrev pub moved_by : Start → (old : Bool) → ℕ → Option ℕ
+moved_by Fresh old generation = None
+moved_by (Torn number) old generation = None
+moved_by (Kept number rec) old generation = moved_to old generation
+
 -- the history after an opening: the record at the position is appended once more where it was moved, and nothing else changes
 abbrev pub history_opened : Option ℕ → SegmentRun → History
 history_opened None segment = segment.history
 history_opened (Some generation) segment = segment.history ++ published_at segment segment.position ∷ []
 
--- an opening: it adds a call, whose steps are those of the machine for the values that it loaded and stored, and its answer is the
--- machine's. Its start is what the segment held by its point and its history
+-- an opening: it adds a call, which begins with what was seen, and whose steps are those of the machine for the values that it loaded and
+-- stored, and its answer is the machine's. Its start is what the segment held by its point and its history
 pub record Reopens (v : SeatView) (opening : Opening) (w : SeatView) : Type 0 where
   pub setup : w.setup ≡ v.setup
   pub calls : w.calls ≡ calls_of v
+  pub before : w.before ≡ v.seen
   pub steps : Wanted opening_act opening_given (new_opener v.setup.layout) (touches_of w.steps)
   pub answer : opening_end (replayed opening_act opening_given (new_opener v.setup.layout) (touches_of w.steps)) ≡ Some opening
   pub start : opening.start ≡ start_found v.daemon_part.segment
   pub sound : IsSoundCall w
   pub points : PointsFollow (point_of v.daemon_part.segment) w.steps (point_of w.daemon_part.segment)
+  pub moved : opening.moved ≡ moved_by (start_found v.daemon_part.segment) (is_old_header v.daemon_part.segment.layout (header_shown v.daemon_part.segment)) (number_shown v.daemon_part.segment)
   pub history : w.daemon_part.segment.history ≡ history_opened opening.moved v.daemon_part.segment
   pub daemon_part : w.daemon_part ≡ opened_of (start_found v.daemon_part.segment) (is_old_header v.daemon_part.segment.layout (header_shown v.daemon_part.segment)) v.daemon_part

@@ -1,5 +1,5 @@
 -- The daemon's poll: its stores, and what a poll leaves.
-use Rattle.std.specs.Prelude.{◌≡◌, ◌≢◌, ◌↔◌, ℕ, ◌+◌, ◌*◌, ◌%◌, ◌<◌, ◌≤◌, ◌==◌, Bool, true, false, List, [], ◌∷◌, ◌++◌, length, slice_index, Option, Some, None, is_some, unwrap_or}
+use Rattle.std.specs.Prelude.{◌≡◌, ◌≢◌, ◌↔◌, ℕ, ◌+◌, ◌*◌, ◌%◌, ◌<◌, ◌≤◌, ◌==◌, Bool, true, false, List, [], ◌∷◌, ◌++◌, length, slice_index, Option, Some, None, is_some, unwrap_or, if◌then◌else◌}
 use Rattle.clock_gate.specs.declared.clock_row.ClockRow.{ClockRow}
 use Rattle.clock_gate.specs.declared.limits.TheConstants.{MOST_STORES}
 use Rattle.clock_gate.specs.Acts.{Touch, Wanted, replayed}
@@ -16,7 +16,7 @@ use Rattle.vmclock_page.specs.Host.{count_of}
 use Rattle.vmclock_page.specs.Counting.{page_number_of}
 use Rattle.status_machine.specs.declared.daemon.Daemon.{Daemon}
 use Rattle.status_machine.specs.declared.heard.Heard.{Heard}
-use Rattle.segment_run.specs.SegmentRun.{number_at, number_shown, header_shown, no_publication}
+use Rattle.segment_run.specs.SegmentRun.{SegmentRun, number_at, number_shown, header_shown, no_publication}
 use Rattle.segment_views.specs.Views.{SeatView, point_of}
 use Rattle.segment_views.specs.Steps.{Tells, TellsDaemonPart, HasMagic, update_begun, update_filled, update_ended, calls_of}
 use Rattle.segment_views.specs.Shown.{touches_of, IsSoundCall, PointsFollow}
@@ -74,6 +74,33 @@ abbrev pub history_after : Polled → History → History
 history_after (Published daemon publication) history = history ++ publication ∷ []
 history_after (Skipped first last) history = history
 history_after (Stopped stores) history = history
+
+-- the segment's position after a poll: a finished publication raises it by one
+abbrev pub position_after : Polled → ℕ → ℕ
+position_after (Published daemon publication) position = position + 1
+position_after (Skipped first last) position = position
+position_after (Stopped stores) position = position
+
+-- an update is open after a poll that stopped after some of its stores, and none is after a finished publication
+abbrev pub writing_after : Polled → Bool → Bool
+writing_after (Published daemon publication) is_writing = false
+writing_after (Skipped first last) is_writing = is_writing
+writing_after (Stopped stores) is_writing = if stores == 0 then is_writing else true
+
+-- word 1 was stored by a poll that made stores
+abbrev pub headed_after : Polled → Bool → Bool
+headed_after (Published daemon publication) is_headed = true
+headed_after (Skipped first last) is_headed = is_headed
+headed_after (Stopped stores) is_headed = if stores == 0 then is_headed else true
+
+-- what a poll leaves of the segment beside its history
+pub record LeavesSegment (polled : Polled) (old new : SegmentRun) : Type 0 where
+  pub layout : new.layout ≡ old.layout
+  pub image : new.image ≡ old.image
+  pub base : new.base ≡ old.base
+  pub position : new.position ≡ position_after polled old.position
+  pub writing : new.is_writing ≡ writing_after polled old.is_writing
+  pub headed : new.is_headed ≡ headed_after polled old.is_headed
 
 -- the generation of word 1 after a poll that began at this one and goes on
 abbrev pub next_generation : (generation : ℕ) → Polled → ℕ
@@ -140,14 +167,16 @@ pub record HasCause (order : Order) (touches : List Touch) (polled : Polled) : T
   pub stopped : (stores : ℕ) → (polled ≡ Stopped stores) ↔ (order.stop ≡ Some stores) × (stores < MOST_STORES) × IsPageSeen order touches
   pub stores : stores_in touches ≡ stores_told polled
 
--- a poll of this order: it adds a call, whose steps are those of the machine for the values that it loaded and stored, and its
--- answer is the machine's
+-- a poll of this order: it adds a call, which begins with what was seen, and whose steps are those of the machine for the values that it
+-- loaded and stored, and its answer is the machine's
 pub record Polls (clock : List ClockRow) (order : Order) (v : SeatView) (polled : Polled) (w : SeatView) : Type 0 where
   pub setup : w.setup ≡ v.setup
   pub calls : w.calls ≡ calls_of v
+  pub before : w.before ≡ v.seen
   pub steps : Wanted polling_act (polling_given clock) (new_polling order) (touches_of w.steps)
   pub answer : polling_end (replayed polling_act (polling_given clock) (new_polling order) (touches_of w.steps)) ≡ Some polled
   pub sound : IsSoundCall w
   pub points : PointsFollow (point_of v.daemon_part.segment) w.steps (point_of w.daemon_part.segment)
   pub history : w.daemon_part.segment.history ≡ history_after polled v.daemon_part.segment.history
+  pub segment : LeavesSegment polled v.daemon_part.segment w.daemon_part.segment
   pub cause : HasCause order (touches_of w.steps) polled

@@ -121,6 +121,8 @@ impl ClientSeat {
         ensures hand { self.new.in_hand ≡ false }
         ensures answer { Nows clock.now tries result self.new.view }
         ensures calls { self.new.view.calls ≡ calls_of self.old.view }
+        // The call begins with what the seat had seen.
+        ensures before { self.new.view.before ≡ self.old.view.seen }
     {
         self.begin(table, tries);
         'calling: loop {
@@ -149,6 +151,7 @@ impl ClientSeat {
         ensures reading { IfNone result (Agrees clock.now self.new.reading) }
         ensures ended { IfSome result (λ a. (self.new.in_hand ≡ false) × Nows clock.now self.old.tries a self.new.view) }
         ensures calls { self.new.view.calls ≡ calls_of self.old.view }
+        ensures before { self.new.view.before ≡ self.old.view.seen }
     {
         let value = table.table.shared.load::<Begin>(&mut self.seat, 1);
         self.machine.give(value, clock);
@@ -171,6 +174,7 @@ impl ClientSeat {
         ensures reading { IfNone result (Agrees clock.now self.new.reading) }
         ensures ended { IfSome result (λ a. (self.new.in_hand ≡ false) × Nows clock.now self.old.tries a self.new.view) }
         ensures calls { self.new.view.calls ≡ self.old.view.calls }
+        ensures before { self.new.view.before ≡ self.old.view.before }
     {
         let Act::Load(word) = self.machine.next() else {
             return None;
@@ -200,6 +204,9 @@ impl ClientSeat {
         ensures ended { IfSome result (λ a. (self.new.in_hand ≡ false) × Nows clock.now self.old.tries a self.new.view) }
         ensures first { self.old.begun ≡ false → self.new.view.calls ≡ calls_of self.old.view }
         ensures later { self.old.begun ≡ true → self.new.view.calls ≡ self.old.view.calls }
+        // The first step begins the call with what the seat had seen.
+        ensures before_first { self.old.begun ≡ false → self.new.view.before ≡ self.old.view.seen }
+        ensures before_later { self.old.begun ≡ true → self.new.view.before ≡ self.old.view.before }
     {
         if self.begun {
             self.later(table, clock)

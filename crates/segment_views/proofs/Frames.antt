@@ -86,6 +86,15 @@ segment_try_grows a b t g h = record {
       let last : published_at b.daemon_part.segment b.daemon_part.segment.position ≡ published_at a.daemon_part.segment a.daemon_part.segment.position =
       ap (published_at b.daemon_part.segment) place ∙ published_later a.daemon_part.segment b.daemon_part.segment a.daemon_part.segment.position g.known g.later (omega arith) (omega arith) in
       subst (λ (p : Publication). AreWordsOf p.rec t.loads) (sym last) (h.words (at ∙ same) (flag_calm a.daemon_part.segment.is_writing rest) (omega arith));
+  header = λ at calm some.
+      let q = h.point in
+      let p = g.later.point in
+      let same : point_of b.daemon_part.segment ≡ point_of a.daemon_part.segment = omega arith in
+      let bit = flag_most a.daemon_part.segment.is_writing in
+      let off : flag_of b.daemon_part.segment.is_writing ≡ 0 = ap flag_of calm in
+      let rest : flag_of a.daemon_part.segment.is_writing ≡ 0 = omega arith in
+      let place : b.daemon_part.segment.position ≡ a.daemon_part.segment.position = omega arith in
+      h.header (at ∙ same) (flag_calm a.daemon_part.segment.is_writing rest) (omega (arith, place, some)) ∙ sym (g.later.header place calm some);
 }
 
 page_still : (a b : HostPart) → 0 < length a.pages → Begins a.pages b.pages → page_point_of a ≡ page_point_of b → b.stores ≡ 0 → (a.pages ≡ b.pages) × (a.stores ≡ 0)

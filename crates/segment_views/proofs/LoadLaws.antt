@@ -57,7 +57,7 @@ load_step c a words views id v w i n kept at is seated setup host daemon host_pa
 -- ---- what a load does to the tries
 
 pub tries_nothing : (segment : SegmentRun) → SegmentTryFits segment no_segment_try
-tries_nothing segment = record { point = omega arith; words = λ same calm above. tt }
+tries_nothing segment = record { point = omega arith; words = λ same calm above. tt; header = λ same calm some. absurd (omega (arith, same, some)) }
 
 pub looks_at_nothing : (w : HostPart) → PageTryFits w no_page_try
 looks_at_nothing w = record { point = omega arith; marker = λ here has. absurd (cc has) }
@@ -84,6 +84,7 @@ loaded_word segment words t i shows h = record {
   point = h.point;
   words = λ same calm above. words_of-snoc (published_at segment segment.position).rec t.loads i (slice_index words i) (h.words same calm above)
       (λ low high. shows.data_words i low high ∙ shows.is.stands calm above i low high);
+  header = h.header;
 }
 
 segment_try_loaded : (c : Setup) (a : SharedState) (words : List ℕ) (views : List SeatView) (id : ℕ) (first : Bool) (v : SeatView) (i shown : ℕ) → MeetsRule c a words views → ViewFits c a id v → i ≢ 1
@@ -228,7 +229,7 @@ front_law first c a words views id v n kept at may =
     let h = at_segment_try first c a id v fits in (
       load_step c a words views id v (front_view first a v (slice_index words 1) n) 1 n kept at may.0 refl refl refl refl refl refl refl
           record { history = begins_self _; point = omega arith; rows = s.rows; pages = s.pages; page_point = s.page_point }
-          (rw (segment_try_next first v (loaded 1 (slice_index words 1) (point_of a.daemon_part.segment))) record { point = omega arith; words = λ same calm above. tt })
+          (rw (segment_try_next first v (loaded 1 (slice_index words 1) (point_of a.daemon_part.segment))) record { point = omega arith; words = λ same calm above. tt; header = λ same calm some. shows.header })
           (page_try_kept c a words views id first v 1 (slice_index words 1) (point_of a.daemon_part.segment) fits (λ e. absurd (omega arith)) (λ e. absurd (omega arith))),
       record {
         point = point_of a.daemon_part.segment;
@@ -253,6 +254,10 @@ front_law first c a words views id v n kept at may =
               entry.0,
               entry.1,
             );
+        steady = λ same even some.
+            let most = flag_most a.daemon_part.segment.is_writing in
+            let off : flag_of a.daemon_part.segment.is_writing ≡ 0 = omega (arith, odd, even) in
+            shows.header ∙ sym (h.header (sym same) (flag_calm a.daemon_part.segment.is_writing off) (omega (arith, some, off)));
         own = λ d. (ap (λ (x : DaemonPart). point_of x.segment) (sym (fits.daemon d).1), ap (λ (x : DaemonPart). x.segment.history) (sym (fits.daemon d).1), shows.header ∙ ap (λ (x : DaemonPart). header_shown x.segment) (sym (fits.daemon d).1));
         view = refl;
       },

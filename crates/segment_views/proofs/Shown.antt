@@ -8,8 +8,8 @@ use Rattle.segment_run.specs.SegmentRun.{no_publication}
 use Rattle.segment_views.specs.declared.setup.Setup.{Setup}
 use Rattle.segment_views.specs.Views.{Begins, Step, SeatView, SegmentTry, PageTry, no_segment_try, no_page_try, DaemonPart, point_of, base_of, after_step, segment_try_after, page_after_step, page_try_after}
 use Rattle.segment_views.specs.Rule.{AreWordsOf}
-use Rattle.segment_views.specs.Steps.{loaded, stored, ShowsPoint, IsBounded, IsWholeRead, IsWholePageRead}
-use Rattle.segment_views.specs.Shown.{touches_of, is_load_of, When, next_shown, last_shown, Rises, Moves, Climbs, SoundFrom, PageSoundFrom, StandsPage, StandsRow, known_after, known_through, IsRowAfter, IsPageAfter, FollowsFrom, IsSoundCall, AddsLoad, AddsStore, point_through, PointsFollow}
+use Rattle.segment_views.specs.Steps.{loaded, stored, ShowsPoint, IsBounded, IsWholeRead, IsSteady, IsWholePageRead}
+use Rattle.segment_views.specs.Shown.{touches_of, is_load_of, When, next_shown, last_shown, Rises, Moves, Climbs, SoundFrom, SteadyFrom, PageSoundFrom, StandsPage, StandsRow, known_after, known_through, IsRowAfter, IsPageAfter, FollowsFrom, IsSoundCall, AddsLoad, AddsStore, point_through, PointsFollow}
 use Rattle.segment_views.proofs.Lists.{begins_trans, begins_length, begins_at}
 
 pub touches-snoc : (steps : List Step) (s : Step) → touches_of (steps ++ s ∷ []) ≡ touches_of steps ++ s.touch ∷ []
@@ -44,6 +44,10 @@ module _ (i : ℕ) (Stands : ℕ → ℕ → Type 0) where
 sound-snoc : (c : Setup) (history : List Publication) (t : SegmentTry) (ts : List Step) (s : Step) → SoundFrom c history t ts → When (is_load_of 1 s) (IsWholeRead c history (segment_try_after t ts) s.touch.value s.shown) → SoundFrom c history t (ts ++ s ∷ [])
 sound-snoc c history t [] s h one = (one, tt)
 sound-snoc c history t (x ∷ ts) s h one = (h.0, sound-snoc c history (after_step t x) ts s h.1 one)
+
+steady-snoc : (t : SegmentTry) (ts : List Step) (s : Step) → SteadyFrom t ts → When (is_load_of 1 s) (IsSteady (segment_try_after t ts) s.touch.value s.shown) → SteadyFrom t (ts ++ s ∷ [])
+steady-snoc t [] s h one = (one, tt)
+steady-snoc t (x ∷ ts) s h one = (h.0, steady-snoc (after_step t x) ts s h.1 one)
 
 page_sound-snoc : (c : Setup) (pages : List (List ℕ)) (t : PageTry) (ts : List Step) (s : Step) → PageSoundFrom c pages t ts → When (is_load_of 11 s) (IsWholePageRead c pages (page_try_after t ts) s.touch.value s.shown)
     → PageSoundFrom c pages t (ts ++ s ∷ [])
@@ -138,6 +142,7 @@ ran_first_at c v w i n l = record {
   history = l.history;
   pages = l.pages;
   sound = (plain (i == 1) _ l.sound, tt);
+  steady = (plain (i == 1) _ l.steady, tt);
   page_sound = (plain (i == 11) _ l.page_sound, tt);
   points = climbs_more 1 (ShowsPoint v.setup) v.seen.point v.seen.point w.seen.point [] (loaded i n l.shown) (climbs_none 1 (ShowsPoint v.setup) v.seen.point) l.points;
   page_points = climbs_more 11 (StandsPage v.setup) v.seen.page_point v.seen.page_point w.seen.page_point [] (loaded i n l.shown) (climbs_none 11 (StandsPage v.setup) v.seen.page_point) l.page_points;
@@ -151,6 +156,7 @@ ran_more_at v w i n l r = record {
   history = begins_trans _ _ _ r.history l.history;
   pages = begins_trans _ _ _ r.pages l.pages;
   sound = sound-snoc v.setup w.seen.history no_segment_try v.steps (loaded i n l.shown) (sound_grows v.setup v.seen.history w.seen.history no_segment_try v.steps l.history r.sound) (plain (i == 1) _ l.sound);
+  steady = steady-snoc no_segment_try v.steps (loaded i n l.shown) r.steady (plain (i == 1) _ l.steady);
   page_sound = page_sound-snoc v.setup w.seen.pages no_page_try v.steps (loaded i n l.shown) (page_sound_grows v.setup v.seen.pages w.seen.pages no_page_try v.steps l.pages r.page_sound) (plain (i == 11) _ l.page_sound);
   points = climbs_more 1 (ShowsPoint v.setup) v.before.point v.seen.point w.seen.point v.steps (loaded i n l.shown) r.points l.points;
   page_points = climbs_more 11 (StandsPage v.setup) v.before.page_point v.seen.page_point w.seen.page_point v.steps (loaded i n l.shown) r.page_points l.page_points;
@@ -196,6 +202,7 @@ sound_stored_at v word n shown r = record {
   history = r.history;
   pages = r.pages;
   sound = sound-snoc v.setup v.seen.history no_segment_try v.steps (stored word n shown) r.sound (no_load (word == 1) _);
+  steady = steady-snoc no_segment_try v.steps (stored word n shown) r.steady (no_load (word == 1) _);
   page_sound = page_sound-snoc v.setup v.seen.pages no_page_try v.steps (stored word n shown) r.page_sound (no_load (word == 11) _);
   points = climbs_more 1 (ShowsPoint v.setup) v.before.point v.seen.point v.seen.point v.steps (stored word n shown) r.points (not_moved 1 (ShowsPoint v.setup) word n shown v.seen.point);
   page_points = climbs_more 11 (StandsPage v.setup) v.before.page_point v.seen.page_point v.seen.page_point v.steps (stored word n shown) r.page_points (not_moved 11 (StandsPage v.setup) word n shown v.seen.page_point);
@@ -207,7 +214,7 @@ sound_stored_at v word n shown r = record {
 -- only these parts of a view are spoken of
 sound_by : (v w : SeatView) → w.setup ≡ v.setup → w.seen ≡ v.seen → w.before ≡ v.before → w.steps ≡ v.steps → IsSoundCall v → IsSoundCall w
 sound_by v w a b d e r = subst IsSoundCall (λ j. record w { setup = sym a j; seen = sym b j; before = sym d j; steps = sym e j })
-    (record { history = r.history; pages = r.pages; sound = r.sound; page_sound = r.page_sound; points = r.points; page_points = r.page_points; rows = r.rows; known = r.known; follows = r.follows })
+    (record { history = r.history; pages = r.pages; sound = r.sound; steady = r.steady; page_sound = r.page_sound; points = r.points; page_points = r.page_points; rows = r.rows; known = r.known; follows = r.follows })
 
 pub sound_stored : (v w : SeatView) (word n : ℕ) → AddsStore word n v w → IsSoundCall v → IsSoundCall w
 sound_stored v w word n a r =

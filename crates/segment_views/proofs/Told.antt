@@ -2,7 +2,7 @@
 use Rattle.std.proofs.Common.{◌≡◌, ◌≢◌, ℕ, ◌-◌, ◌/◌, ◌<◌, length, Bool, true, List, refl, sym, ap, ◌∙◌, subst, ne_eqb, arith}
 use Rattle.std.specs.Prelude.{◌==◌, ◌&&◌}
 use Rattle.segment_views.specs.Views.{Begins, Seen, SeatView, DaemonPart, point_of, base_of}
-use Rattle.segment_views.specs.Steps.{loaded, touched, segment_try_at, page_try_at, ShowsPoint, IsWholeRead, IsWholePageRead, TellsFront, TellsPage, TellsClock, TellsDaemonPart}
+use Rattle.segment_views.specs.Steps.{loaded, touched, segment_try_at, page_try_at, ShowsPoint, IsWholeRead, IsSteady, IsWholePageRead, TellsFront, TellsPage, TellsClock, TellsDaemonPart}
 use Rattle.segment_views.specs.Shown.{When, Moves, StandsPage, StandsRow, IsRowAfter, IsPageAfter, AddsLoad, AddsStore}
 use Rattle.segment_views.proofs.Lists.{begins_self}
 
@@ -18,12 +18,12 @@ begins_same xs ys e = subst (λ l. Begins xs l) (sym e) (begins_self xs)
 
 -- a load after which the seat has seen this
 loads_as : (first : Bool) (i n shown : ℕ) (v w : SeatView) (s : Seen) → w ≡ record (touched first (loaded i n shown) v) { seen = s }
-    → Begins v.seen.history s.history → Begins v.seen.pages s.pages → When (i == 1) (IsWholeRead v.setup s.history (segment_try_at first v) n shown) → When (i == 11) (IsWholePageRead v.setup s.pages (page_try_at first v) n shown)
+    → Begins v.seen.history s.history → Begins v.seen.pages s.pages → When (i == 1) (IsWholeRead v.setup s.history (segment_try_at first v) n shown) → When (i == 1) (IsSteady (segment_try_at first v) n shown) → When (i == 11) (IsWholePageRead v.setup s.pages (page_try_at first v) n shown)
     → Moves 1 (ShowsPoint v.setup) (loaded i n shown) v.seen.point s.point → Moves 11 (StandsPage v.setup) (loaded i n shown) v.seen.page_point s.page_point → Moves 23 StandsRow (loaded i n shown) v.seen.rows s.rows
     → When (i == 1) (shown / 2 - base_of v.setup ≡ length s.history) → When (i == 23) ((k : ℕ) → k < length v.seen.history → IsRowAfter v.seen.history k shown)
     → When (i == 11) ((k : ℕ) → k < length v.seen.history → IsPageAfter v.setup v.seen.history k shown) → (v.is_daemon ≡ true → When (i == 1) (shown ≡ point_of v.daemon_part.segment))
     → AddsLoad first i n v w
-loads_as first i n shown v w s is history pages sound page_sound points page_points rows place row_after page_after own =
+loads_as first i n shown v w s is history pages sound steady page_sound points page_points rows place row_after page_after own =
     subst (λ (x : SeatView). AddsLoad first i n v x) (sym is)
     (record {
       shown = shown;
@@ -38,6 +38,7 @@ loads_as first i n shown v w s is history pages sound page_sound points page_poi
       history = history;
       pages = pages;
       sound = sound;
+      steady = steady;
       page_sound = page_sound;
       points = points;
       page_points = page_points;
@@ -50,7 +51,7 @@ loads_as first i n shown v w s is history pages sound page_sound points page_poi
 
 pub front_loads : (first : Bool) (n : ℕ) (v w : SeatView) → TellsFront first v n n w → AddsLoad first 1 n v w
 front_loads first n v w t =
-    loads_as first 1 n t.point v w record v.seen { history = t.history; point = t.point } t.view t.begins (begins_self _) t.whole tt
+    loads_as first 1 n t.point v w record v.seen { history = t.history; point = t.point } t.view t.begins (begins_self _) t.whole t.steady tt
     record { load = λ _. ((t.stands, λ even some. front_known (t.known even some)), t.later, refl); other = λ is. absurd (cc is) }
     (stays 11 1 n t.point _ _ (StandsPage v.setup) (λ e. absurd (omega arith)) refl)
     (stays 23 1 n t.point _ _ StandsRow (λ e. absurd (omega arith)) refl)
@@ -62,7 +63,7 @@ front_loads first n v w t =
 
 pub page_loads : (first : Bool) (n : ℕ) (v w : SeatView) → TellsPage first v n n w → AddsLoad first 11 n v w
 page_loads first n v w t =
-    loads_as first 11 n t.point v w record v.seen { pages = t.pages; page_point = t.point } t.view (begins_self _) t.begins tt t.whole
+    loads_as first 11 n t.point v w record v.seen { pages = t.pages; page_point = t.point } t.view (begins_self _) t.begins tt tt t.whole
     (stays 1 11 n t.point _ _ (ShowsPoint v.setup) (λ e. absurd (omega arith)) refl)
     record { load = λ _. (t.stands, t.later, refl); other = λ is. absurd (cc is) }
     (stays 23 11 n t.point _ _ StandsRow (λ e. absurd (omega arith)) refl)
@@ -71,7 +72,7 @@ page_loads first n v w t =
 
 pub clock_loads : (first : Bool) (n : ℕ) (v w : SeatView) → TellsClock first v n n w → AddsLoad first 23 n v w
 clock_loads first n v w t =
-    loads_as first 23 n n v w record v.seen { rows = n } t.view (begins_self _) (begins_self _) tt tt
+    loads_as first 23 n n v w record v.seen { rows = n } t.view (begins_self _) (begins_self _) tt tt tt
     (stays 1 23 n n _ _ (ShowsPoint v.setup) (λ e. absurd (omega arith)) refl)
     (stays 11 23 n n _ _ (StandsPage v.setup) (λ e. absurd (omega arith)) refl)
     record { load = λ _. (refl, t.later, refl); other = λ is. absurd (cc is) }
@@ -80,7 +81,7 @@ clock_loads first n v w t =
 
 pub plain_loads : (first : Bool) (i n : ℕ) (v w : SeatView) → i ≢ 1 → i ≢ 11 → i ≢ 23 → w ≡ touched first (loaded i n 0) v → AddsLoad first i n v w
 plain_loads first i n v w ne np nc is =
-    loads_as first i n 0 v w v.seen is (begins_self _) (begins_self _) (not_here 1 i (IsWholeRead v.setup v.seen.history (segment_try_at first v) n 0) ne) (not_here 11 i (IsWholePageRead v.setup v.seen.pages (page_try_at first v) n 0) np)
+    loads_as first i n 0 v w v.seen is (begins_self _) (begins_self _) (not_here 1 i (IsWholeRead v.setup v.seen.history (segment_try_at first v) n 0) ne) (not_here 1 i (IsSteady (segment_try_at first v) n 0) ne) (not_here 11 i (IsWholePageRead v.setup v.seen.pages (page_try_at first v) n 0) np)
     (stays 1 i n 0 _ _ (ShowsPoint v.setup) ne refl)
     (stays 11 i n 0 _ _ (StandsPage v.setup) np refl)
     (stays 23 i n 0 _ _ StandsRow nc refl)

@@ -11,7 +11,7 @@ use Rattle.segment_layout.specs.History.{Begun}
 use Rattle.vmclock_page.specs.Host.{constants_of, count_of, raised}
 use Rattle.vmclock_page.specs.Words.{word_with_count}
 use Rattle.vmclock_page.specs.Counting.{page_number_of}
-use Rattle.segment_run.specs.SegmentRun.{SegmentRun, published_at}
+use Rattle.segment_run.specs.SegmentRun.{SegmentRun, header_shown, published_at}
 use Rattle.segment_run.specs.ShowsSegment.{HoldsWords, ShowsSegment}
 use Rattle.segment_views.specs.declared.setup.Setup.{Setup}
 use Rattle.segment_views.specs.Views.{Begins, UpdateInHand, DaemonPart, HostPart, Seen, SeatView, SegmentTry, PageTry, point_of, page_point_of, base_of, segment_try_of, page_try_of}
@@ -112,10 +112,12 @@ abbrev pub AreWordsOf : RecordFields → List (ℕ × ℕ) → Type 0
 AreWordsOf rec [] = Unit {0}
 AreWordsOf rec (load ∷ loads) = (2 ≤ load.0 → load.0 < 10 → load.1 ≡ slice_index (record_words 0 rec) load.0) × AreWordsOf rec loads
 
--- while the point has not moved since its first load, a try has loaded the words of the record at the front
+-- while the point has not moved since its first load, a try has loaded the words of the record at the front, and word 1, which is the
+-- same at rest once something was published
 pub record SegmentTryFits (segment : SegmentRun) (t : SegmentTry) : Type 0 where
   pub point : t.shown ≤ point_of segment
   pub words : t.shown ≡ point_of segment → segment.is_writing ≡ false → segment.base < segment.position → AreWordsOf (published_at segment segment.position).rec t.loads
+  pub header : t.shown ≡ point_of segment → segment.is_writing ≡ false → 0 < segment.position → t.header ≡ header_shown segment
 
 -- while the count has not moved since its first load, a try of the page has loaded the marker of the last page
 pub record PageTryFits (w : HostPart) (t : PageTry) : Type 0 where

@@ -9,7 +9,7 @@ use Rattle.segment_run.specs.ShowsSegment.{IsSegment, IsSegmentLater}
 use Rattle.segment_views.specs.declared.setup.Setup.{Setup}
 use Rattle.segment_views.specs.Views.{Begins, Step, SeatView, SegmentTry, PageTry, no_segment_try, no_page_try, point_of, base_of, point_after, after_step, page_after_step}
 use Rattle.segment_views.specs.Rule.{count_word_at}
-use Rattle.segment_views.specs.Steps.{loaded, stored, calls_at, before_at, steps_at, segment_try_at, page_try_at, ShowsPoint, IsWholeRead, IsWholePageRead}
+use Rattle.segment_views.specs.Steps.{loaded, stored, calls_at, before_at, steps_at, segment_try_at, page_try_at, ShowsPoint, IsWholeRead, IsSteady, IsWholePageRead}
 
 abbrev pub touches_of : List Step → List Touch
 touches_of [] = []
@@ -51,7 +51,12 @@ abbrev pub SoundFrom : Setup → List Publication → SegmentTry → List Step �
 SoundFrom c history t [] = Unit {0}
 SoundFrom c history t (s ∷ steps) = When (is_load_of 1 s) (IsWholeRead c history t s.touch.value s.shown) × SoundFrom c history (after_step t s) steps
 
--- and each load of word 11
+-- and each load of word 1 at the point of the try's first load finds its word
+abbrev pub SteadyFrom : SegmentTry → List Step → Type 0
+SteadyFrom t [] = Unit {0}
+SteadyFrom t (s ∷ steps) = When (is_load_of 1 s) (IsSteady t s.touch.value s.shown) × SteadyFrom (after_step t s) steps
+
+-- each load of word 11 ends a try of the page of which `IsWholePageRead` holds
 abbrev pub PageSoundFrom : Setup → List (List ℕ) → PageTry → List Step → Type 0
 PageSoundFrom c pages t [] = Unit {0}
 PageSoundFrom c pages t (s ∷ steps) = When (is_load_of 11 s) (IsWholePageRead c pages t s.touch.value s.shown) × PageSoundFrom c pages (page_after_step t s) steps
@@ -86,11 +91,12 @@ FollowsFrom c history known (s ∷ steps) =
     × FollowsFrom c history (known_after c known s) steps
 
 -- what holds of a call in the view, from its first step on: histories and pages grow, each try that a load ends is whole where its
--- words say so, and points, page points and rows never fall from what was seen before the call to what is seen now
+-- words say so, word 1 is steady at a point, and points, page points and rows never fall from what was seen before the call to what is seen now
 pub record IsSoundCall (v : SeatView) : Type 0 where
   pub history : Begins v.before.history v.seen.history
   pub pages : Begins v.before.pages v.seen.pages
   pub sound : SoundFrom v.setup v.seen.history no_segment_try v.steps
+  pub steady : SteadyFrom no_segment_try v.steps
   pub page_sound : PageSoundFrom v.setup v.seen.pages no_page_try v.steps
   pub points : Climbs 1 (ShowsPoint v.setup) v.before.point v.steps v.seen.point
   pub page_points : Climbs 11 (StandsPage v.setup) v.before.page_point v.steps v.seen.page_point
@@ -126,6 +132,7 @@ pub record AddsLoad (first : Bool) (i n : ℕ) (v w : SeatView) : Type 0 where
   pub history : Begins v.seen.history w.seen.history
   pub pages : Begins v.seen.pages w.seen.pages
   pub sound : When (i == 1) (IsWholeRead v.setup w.seen.history (segment_try_at first v) n shown)
+  pub steady : When (i == 1) (IsSteady (segment_try_at first v) n shown)
   pub page_sound : When (i == 11) (IsWholePageRead v.setup w.seen.pages (page_try_at first v) n shown)
   pub points : Moves 1 (ShowsPoint v.setup) (loaded i n shown) v.seen.point w.seen.point
   pub page_points : Moves 11 (StandsPage v.setup) (loaded i n shown) v.seen.page_point w.seen.page_point

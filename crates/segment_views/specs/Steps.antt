@@ -251,6 +251,10 @@ IsWholeRead c history t found shown =
     found ≡ t.header → t.shown % 2 ≡ 0 → base_of c < t.shown / 2 → IsHeaderFor c.layout t.header (number_of_point c.layout t.shown) → shown / 2 < t.shown / 2 + period_of c.layout
     → (shown ≡ t.shown) × (t.shown / 2 ≤ base_of c + length history) × AreWordsOf (entry_at c history (t.shown / 2)).rec t.loads × IsBounded (entry_at c history (t.shown / 2))
 
+-- at rest, once something was published, word 1 is the word of the try's first load, where the point is that of that load
+abbrev pub IsSteady : SegmentTry → (found shown : ℕ) → Type 0
+IsSteady t found shown = shown ≡ t.shown → shown % 2 ≡ 0 → 0 < shown → found ≡ t.header
+
 pub record TellsFront (first : Bool) (v : SeatView) (found left : ℕ) (w : SeatView) : Type 0 where
   pub point : ℕ
   pub history : List Publication
@@ -261,6 +265,7 @@ pub record TellsFront (first : Bool) (v : SeatView) (found left : ℕ) (w : Seat
   -- at rest nothing was published, or the last record is known
   pub known : point % 2 ≡ 0 → 0 < point / 2 → 0 < length history
   pub whole : IsWholeRead v.setup history (segment_try_at first v) found point
+  pub steady : IsSteady (segment_try_at first v) found point
   pub own : v.is_daemon ≡ true → (point ≡ point_of v.daemon_part.segment) × (history ≡ v.daemon_part.segment.history) × (found ≡ header_shown v.daemon_part.segment)
   pub view : w ≡ record (touched first (loaded 1 found point) v) { seen = record v.seen { history = history; point = point } }
 

@@ -12,6 +12,7 @@ invariant-calling l = record {
   reading : Agrees l.clock l.self.reading;
   fresh : l.self.begun ≡ false → l.self.view ≡ l.fn.self.view;
   begun : l.self.begun ≡ true → l.self.view.calls ≡ calls_of l.fn.self.view;
+  before : l.self.begun ≡ true → l.self.view.before ≡ l.fn.self.view.seen;
 }
 
 abbrev pub decreases-calling : goal.decreases-calling

@@ -1,0 +1,5 @@
+pub mod DaemonCalls
+pub mod ClientCalls
+pub mod LiveRun
+pub mod LiveReport
+pub mod LiveLaws

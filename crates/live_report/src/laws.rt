@@ -1,0 +1,17 @@
+//! What a run of threads is worth.
+ghost use Rattle.live_report.specs.LiveLaws.{LiveReportsAreLawful, HistoriesAreOfLines};
+
+use lawful_report::report_laws;
+use segment_rule::answer_laws;
+
+/// What every run of a trace comes to, whatever order the steps of its parties took.
+///
+/// `lawful`: the report of its lines is lawful, where the trace has fewer polls than the layout's period. `history`: the daemon's
+/// history is the image's entry, the record moved from it, and the publications of the lines, in their order, and no others.
+pub fn live_laws()
+    ensures lawful { LiveReportsAreLawful }
+    ensures history { HistoriesAreOfLines }
+{
+    answer_laws();
+    report_laws();
+}
