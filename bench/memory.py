@@ -55,6 +55,7 @@ COMMANDS = {
     "drill": (["drill", "0", "6"], None),
     "drill --trace": (["drill", "0", "6", "--trace"], None),
 }
+PAGE = 4_096
 MEMORY = (7, b"", b"clockbound: out of memory\n")
 
 
@@ -103,7 +104,7 @@ def starts(program, address_space):
 
 def with_less_space(program, words, example, whole, least):
     """How many sizes were tried, those that ended in want of memory, and what else came."""
-    sizes = [least + step * 65_536 for step in range(129)] + [least + 8_388_608 * step for step in range(2, 9)]
+    sizes = [least + step * PAGE for step in range(257)] + [least + step * 1_048_576 for step in range(2, 17)]
     wants, others = 0, []
     for size in sizes:
         found = run(program, words, example, address_space=size)
@@ -122,7 +123,7 @@ def main():
         with open(source, "w") as text:
             text.write(SHIM)
         subprocess.run(["gcc", "-O1", "-shared", "-fPIC", "-o", shim, source, "-ldl"], check=True)
-        least = next(size for size in range(65_536, 1 << 30, 65_536) if starts(program, size))
+        least = next(size for size in range(PAGE, 1 << 30, PAGE) if starts(program, size))
         print(f"the program starts in {least // 1024} KiB of address space")
         for name, (words, example) in COMMANDS.items():
             if wanted and name not in wanted:
