@@ -102,7 +102,27 @@ fn the_first_unlawful_line_is_told(rt: HostRuntime) -> Result<(), Fail> {
     Ok(())
 }
 
-// An image of layout 2 with a record is moved where the trace's layout is 3, and nowhere else.
+// A report with this move and this publication, on a trace of this layout whose image has a record in layout 2.
+fn moved_report(alloc: Global, layout: &str, moved: &str, published: &str) -> Result<String, Fail> {
+    Ok(format!(in alloc;
+        "clockbound-trace,1
+set,layout,{layout}
+image,{IMAGE}
+clock,2000000000,1700000001000000000
+call,1,1
+poll,{REPLY}
+call,1
+report
+clockbound-report,1
+open,1,kept,65534
+{moved}{published}ans,1,1,busy,1,65534,65535
+ans,1,2,time,65538,1,0,synchronized,1700000000999755858,1700000001000244142
+total,1,2,1,0,1,0,0
+"
+    )?)
+}
+
+// Such an image is moved where the trace's layout is 3, and nowhere else.
 #[test]
 fn the_moved_line_stands_in_layout_three(rt: HostRuntime) -> Result<(), Fail> {
     let alloc = rt.alloc();
@@ -129,22 +149,7 @@ fn the_moved_line_stands_in_layout_three(rt: HostRuntime) -> Result<(), Fail> {
             "unlawful,3\n",
         ),
     ] {
-        let text = format!(in alloc;
-            "clockbound-trace,1
-set,layout,{layout}
-image,{IMAGE}
-clock,2000000000,1700000001000000000
-call,1,1
-poll,{REPLY}
-call,1
-report
-clockbound-report,1
-open,1,kept,65534
-{moved}{published}ans,1,1,busy,1,65534,65535
-ans,1,2,time,65538,1,0,synchronized,1700000000999755858,1700000001000244142
-total,1,2,1,0,1,0,0
-"
-        )?;
+        let text = moved_report(alloc, layout, moved, published)?;
         let (status, written) = served(alloc, &["audit"], text.as_str())?;
         assert_eq!(rt; status, Status::Ok, "{case}");
         assert_eq!(rt; written.as_slice(), told.as_bytes(), "{case}");

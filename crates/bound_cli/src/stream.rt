@@ -8,7 +8,7 @@ ghost use Rattle.bound_cli.specs.Stream.{TakenWhole, TookTooMuch, Appended, Appe
 use clock_gate::{Failed, INPUT_LIMIT, Sink, Source};
 use std::alloc::{AllocError, Global};
 
-// So many bytes are asked for at once: 64 KiB.
+// So many bytes are asked for at once: 64 KiB. The block stands in the heap, so that the stack stays as small as it is at the start.
 const BLOCK: usize = 65_536;
 
 /// Why a source was not read to its end.
@@ -37,7 +37,7 @@ pub fn read_all<S: Source>(alloc: Global, source: &mut S) -> Result<Vec<u8>, Rea
     ensures failed { IsErrOf result ReadError.Failed → Rose (S.faults source.old) (S.faults source.new) }
 {
     let mut bytes = Vec::new(alloc);
-    let mut block = [0; BLOCK];
+    let mut block = vec![in alloc; 0_u8; BLOCK]?;
     'reading: while bytes.len() <= INPUT_LIMIT {
         match source.take(&mut block) {
             Err(Failed) => return Err(ReadError::Failed),

@@ -4,7 +4,7 @@ use csv_records::Reason;
 use std::alloc::{AllocError, Global};
 use std::test::Fail;
 
-const TRACE: &str = "clockbound-trace,1
+pub(crate) const TRACE: &str = "clockbound-trace,1
 clock,1000000000,1700000000000000000,1700000000000100000
 poll,06020000002100050000000000000000000000010000000000000000a9fea97ba9fea97b0000000000000000000000000001000000040000000000006500000000000000f7ffffff0000000000000000000000000000000000000000ec800000ea80000000000000
 clock,3500000000,1700000002500000000,1700000002500100000
@@ -12,11 +12,11 @@ call,1
 ";
 
 // A start page with sequence count 2 and marker 7.
-const PAGE: &str =
+pub(crate) const PAGE: &str =
     "56434c4b68000000010001000200000007000000000000000000000000000000000000000000000000000000000000000000000000000000000000000000000000000000000000000000000000000000000000000000000000000000000000000000000000000000";
 
 // A segment of layout 2 with generation 65,534.
-const IMAGE: &str = "4e5a4d4100024243500000000200feff\
+pub(crate) const IMAGE: &str = "4e5a4d4100024243500000000200feff\
     01000000000000000000000000000000e9030000000000000000000000000000\
     aeb9030000000000000000000000000050c30000010000000000000000000000";
 
@@ -38,7 +38,7 @@ fn words(alloc: Global, words: &[&str]) -> Result<Vec<String>, AllocError> {
 
 // What these words come to over a text, and what is written, where each call moves at most so many bytes and the calls of
 // these numbers fail.
-fn served(
+pub(crate) fn served(
     alloc: Global,
     given: &[&str],
     text: &[u8],
@@ -186,7 +186,7 @@ fn the_first_refused_line_is_named_with_its_reason(rt: HostRuntime) -> Result<()
 }
 
 // The bytes of a reply with the bound 244,142 ns.
-const REPLY: &str =
+pub(crate) const REPLY: &str =
     "06020000002100050000000000000000000000010000000000000000a9fea97ba9fea97b0000000000000000000000000001000000040000000000006500000000000000f7ffffff0000000000000000000000000000000000000000ec800000ea80000000000000";
 
 // The report on these lines, where `A` stands for the reply, `I` for the image and `P` for the page.
