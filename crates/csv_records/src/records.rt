@@ -9,6 +9,11 @@ use csv::{ByteRecord, Error, ErrorKind, Reader, ReaderBuilder};
 use std::alloc::{AllocError, Global};
 use std::marker::Model;
 
+// The room of a row at the start, in bytes and in fields.
+const ROW_BYTES: usize = 8192;
+
+const ROW_FIELDS: usize = 8;
+
 /// The records of a text that are still ahead, each of them the list of its fields.
 ///
 /// Fields are parted by commas, and a field may be quoted. A record ends with a line feed, with a carriage return, or
@@ -74,6 +79,14 @@ impl<'a> Records<'a> {
             }
         }
     }
+}
+
+/// A row of no fields, to read records into. It has room from the start: a reader scans no further in one go than its row
+/// has room for.
+pub fn roomy_row(alloc: Global) -> Result<ByteRecord, AllocError>
+    ensures { IfOk result (λ row. fields_of row ≡ []) }
+{
+    ByteRecord::with_capacity(alloc, ROW_BYTES, ROW_FIELDS)
 }
 
 // A slice is read without failing, and records may have any number of fields, so that memory is left.
