@@ -1,4 +1,5 @@
 pub mod Ahead
+pub mod DigitByDigit
 pub mod Digits
 pub mod GrammarLaws
 pub mod Lines
