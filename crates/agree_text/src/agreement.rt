@@ -7,8 +7,7 @@ ghost use Rattle.agree_text.specs.Agreement.{agreement_text, session_in, HasFaul
 
 use crate::session::Session;
 use clock_gate::List;
-use csv::ByteRecord;
-use csv_records::{Reason, Records, TraceError, TraceFault};
+use csv_records::{Reason, Records, TraceError, TraceFault, roomy_row};
 use std::alloc::Global;
 
 fn begun(alloc: Global) -> Result<Session, TraceError>
@@ -25,7 +24,7 @@ fn session(alloc: Global, bytes: &[u8]) -> Result<Session, TraceError>
     ensures { Gives (λ session. session) result (session_in bytes.now) }
 {
     let mut ahead = Records::new(alloc, bytes);
-    let mut row = ByteRecord::new(alloc);
+    let mut row = roomy_row(alloc)?;
     let mut session = begun(alloc)?;
     'reading: while ahead.read(&mut row)? {
         session.take(alloc, &row)?;

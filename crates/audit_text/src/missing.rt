@@ -4,8 +4,7 @@ ghost use Rattle.csv_records.specs.Records.{records_of};
 ghost use Rattle.csv_records.specs.TraceError.{Refuses};
 ghost use Rattle.audit_text.specs.Audited.{no_report, unreported};
 
-use csv::ByteRecord;
-use csv_records::Records;
+use csv_records::{Records, roomy_row};
 use std::alloc::{AllocError, Global};
 use trace_reader::{Reason, TraceError, TraceFault, read_trace};
 
@@ -15,7 +14,7 @@ fn count_records(alloc: Global, bytes: &[u8]) -> Result<usize, AllocError>
     ensures most { IfOk result (λ count. count ≤ length bytes.now) }
 {
     let mut records = Records::new(alloc, bytes);
-    let mut row = ByteRecord::new(alloc);
+    let mut row = roomy_row(alloc)?;
     let mut count = 0;
     'counting: while records.read(&mut row)? {
         count += 1;

@@ -1,5 +1,7 @@
 pub mod Ahead
+pub mod DigitByDigit
 pub mod Digits
+pub mod Feeds
 pub mod GrammarLaws
 pub mod Lines
 pub mod Numerals

@@ -76,7 +76,7 @@ line_read (c ∷ xs) s fields field plain is =
         rw (is.steps c (plain_first c xs plain).0, (plain_first c xs plain).1, f, e, same) (ap (λ (parts : List (List ℕ)). read_with (fields ++ parts)) (sym (begun-begun field (c ∷ []) (parted comma (line xs)))))
 
 -- between two records a line feed is passed over
-feed_skipped : (c : ℕ) (xs : List ℕ) → (c == 13) ≡ false → (c == 10) ≡ true
+pub feed_skipped : (c : ℕ) (xs : List ℕ) → (c == 13) ≡ false → (c == 10) ≡ true
     → next_record default_config st.StartRecord [] [] (c ∷ xs) ≡ next_record default_config st.StartRecord [] [] xs
 unfolding next_record
 feed_skipped c xs no_return feed = rw (no_return, feed) refl

@@ -24,10 +24,10 @@ below_ascii (d ∷ ds) (suc i) h = below_ascii ds i (and_parts _ _ h).1
 pub IsAscii-digits : (ds : List ℕ) → list_all is_ascii_digit ds ≡ true → IsAscii ds
 IsAscii-digits ds h = λ i. below_ascii ds i h
 
-digits_parts : (ds : List ℕ) → IsTrue (is_digits ds) → (0 < length ds) × (list_all is_ascii_digit ds ≡ true)
+pub digits_parts : (ds : List ℕ) → IsTrue (is_digits ds) → (0 < length ds) × (list_all is_ascii_digit ds ≡ true)
 digits_parts ds h = grind (arith, nat_tests)
 
-digits_from_parts : (ds : List ℕ) → 0 < length ds → list_all is_ascii_digit ds ≡ true → IsTrue (is_digits ds)
+pub digits_from_parts : (ds : List ℕ) → 0 < length ds → list_all is_ascii_digit ds ≡ true → IsTrue (is_digits ds)
 digits_from_parts ds some all = rw all (grind (arith, nat_tests))
 
 no_plus : (ds : List ℕ) → list_all is_ascii_digit ds ≡ true → get_or ds 0 0 ≢ 43

@@ -86,7 +86,7 @@ pub shortens : (cfg : Config) (s : State) (xs : List ℕ) (p : Read) → ends_at
 shortens cfg s xs p r e = let after = leaves cfg s [] [] xs p e in (after.between, after.fewer (has_bytes cfg s xs p r e))
 
 -- any number of turns above the length gives the same records
-enough : (cfg : Config) (n m : ℕ) (s : State) (xs : List ℕ) → ends_at_end s ≡ false → length xs < n → length xs < m → records_from cfg n s xs ≡ records_from cfg m s xs
+pub enough : (cfg : Config) (n m : ℕ) (s : State) (xs : List ℕ) → ends_at_end s ≡ false → length xs < n → length xs < m → records_from cfg n s xs ≡ records_from cfg m s xs
 unfolding records_from
 enough cfg zero m s xs r a b = absurd (omega (arith, a))
 enough cfg (suc n) zero s xs r a b = absurd (omega (arith, b))

@@ -1,5 +1,5 @@
 //! What one field says.
-ghost use Rattle.std.specs.Prelude.{◌≡◌, ◌==◌, ◌≤◌, ◌^◌, ◌↔◌, IfOk, IfSome, IfNone, IsSome, IsTrue, get_or, option_map, vec_items};
+ghost use Rattle.std.specs.Prelude.{◌≡◌, ◌==◌, ◌≤◌, ◌^◌, ◌↔◌, length, IfOk, IfSome, IfNone, IsSome, IsTrue, get_or, option_map, vec_items};
 ghost use Rattle.std.specs.Str.{bytes_eq};
 ghost use Rattle.std.specs.Str.Parse.{digits_value};
 ghost use Rattle.csv_records.specs.Fields.{IsHexOf, bytes_in, is_digits, number_in};
@@ -65,8 +65,28 @@ fn has_plus(field: &[u8]) -> bool
     }
 }
 
+// The value of one digit or more, that any number of up to 19 digits has in 64 bits.
+#[tactic(auto, unfolding(crate::specs::Fields::is_digits))]
+fn short_value(field: &[u8]) -> Option<u64>
+    requires { length field.now ≤ 19 }
+    ensures digits { IfSome result (λ n. IsTrue (is_digits field.now) × (n ≡ digits_value 10 field.now)) }
+    ensures other { IfNone result (¬ IsTrue (is_digits field.now)) }
+{
+    if field.is_empty() {
+        return None;
+    }
+    let mut value = 0;
+    'digits: for byte in field {
+        if !byte.is_ascii_digit() {
+            return None;
+        }
+        value = value * 10 + u64::from(*byte - b'0');
+    }
+    Some(value)
+}
+
 // The value of one digit or more. `parse` alone would accept a plus.
-fn written_value(field: &[u8]) -> Option<u64>
+fn parsed_value(field: &[u8]) -> Option<u64>
     ensures digits { IfSome result (λ n. IsTrue (is_digits field.now) × (n ≡ digits_value 10 field.now)) }
     ensures large { IfNone result (IsTrue (is_digits field.now) → 2 ^ 64 ≤ digits_value 10 field.now) }
 {
@@ -77,4 +97,15 @@ fn written_value(field: &[u8]) -> Option<u64>
         Ok(text) => text.parse::<u64>().ok(),
         Err(_) => None,
     }
+}
+
+// The value of one digit or more, where 64 bits hold it.
+fn written_value(field: &[u8]) -> Option<u64>
+    ensures digits { IfSome result (λ n. IsTrue (is_digits field.now) × (n ≡ digits_value 10 field.now)) }
+    ensures large { IfNone result (IsTrue (is_digits field.now) → 2 ^ 64 ≤ digits_value 10 field.now) }
+{
+    if field.len() < 20 {
+        return short_value(field);
+    }
+    parsed_value(field)
 }

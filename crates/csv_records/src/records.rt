@@ -1,6 +1,7 @@
 //! The records of a text, read one by one.
-ghost use Rattle.std.specs.Prelude.{◌≡◌, ◌≤◌, ◌∷◌, [], true, false, length, OnErr, IfOk};
-ghost use Rattle.csv.specs.Reading.{error_kind, strip_bom};
+ghost use Rattle.std.specs.Prelude.{◌≡◌, ◌≤◌, ◌∷◌, [], true, false, not, length, OnErr, IfOk, IfSome, IsTrue};
+ghost use Rattle.csv.specs.Machine.{line_feed};
+ghost use Rattle.csv.specs.Reading.{default_config, error_kind, records, strip_bom};
 ghost use Rattle.csv.specs.Records.{fields_of};
 ghost use Rattle.csv_records.specs.Plain.{IsPlain, rows_of};
 ghost use Rattle.csv_records.specs.Records.{IsOutside, records_of};
@@ -8,6 +9,58 @@ ghost use Rattle.csv_records.specs.Records.{IsOutside, records_of};
 use csv::{ByteRecord, Error, ErrorKind, Reader, ReaderBuilder};
 use std::alloc::{AllocError, Global};
 use std::marker::Model;
+
+// The room of a row at the start, in bytes and in fields.
+const ROW_BYTES: usize = 8192;
+
+const ROW_FIELDS: usize = 8;
+
+// What follows a line feed.
+fn after_feed(text: &[u8]) -> Option<&[u8]>
+    ensures { IfSome result (λ later. text.now ≡ line_feed ∷ later.now) }
+{
+    match text {
+        [byte, later @ ..] if *byte == b'\n' => Some(later),
+        _ => None,
+    }
+}
+
+// What follows the line feeds that a text begins with.
+#[tactic(auto, using(crate::proofs::Feeds::one_feed))]
+fn after_feeds(text: &[u8]) -> &[u8]
+    ensures { records default_config result.now ≡ records default_config text.now }
+{
+    let mut rest = text;
+    'feeds: while let Some(later) = after_feed(rest) {
+        rest = later;
+    }
+    rest
+}
+
+fn may_be_marked(text: &[u8]) -> bool
+    ensures { IsTrue (not result) → strip_bom text.now ≡ text.now }
+{
+    match text {
+        [] => false,
+        [first, ..] => *first == 0xEF,
+    }
+}
+
+// A text with the same records, without the line feeds that it begins with. They stay where a byte order mark may follow
+// them, since that is one at the very start alone.
+#[tactic(auto, unfolding(crate::specs::Records::records_of))]
+fn without_feeds(text: &[u8]) -> &[u8]
+    ensures { records_of result.now ≡ records_of text.now }
+{
+    if may_be_marked(text) {
+        return text;
+    }
+    let rest = after_feeds(text);
+    if may_be_marked(rest) {
+        return text;
+    }
+    rest
+}
 
 /// The records of a text that are still ahead, each of them the list of its fields.
 ///
@@ -45,7 +98,7 @@ impl<'a> Records<'a> {
         let reader = ReaderBuilder::new()
             .has_headers(false)
             .flexible(true)
-            .from_reader(alloc, bytes);
+            .from_reader(alloc, without_feeds(bytes));
         Records {
             reader,
             is_over: false,
@@ -74,6 +127,14 @@ impl<'a> Records<'a> {
             }
         }
     }
+}
+
+/// A row of no fields, to read records into. It has room from the start: a reader scans no further in one go than its row
+/// has room for.
+pub fn roomy_row(alloc: Global) -> Result<ByteRecord, AllocError>
+    ensures { IfOk result (λ row. fields_of row ≡ []) }
+{
+    ByteRecord::with_capacity(alloc, ROW_BYTES, ROW_FIELDS)
 }
 
 // A slice is read without failing, and records may have any number of fields, so that memory is left.

@@ -21,5 +21,5 @@ pub fn pagetime(alloc: Global, bytes: &[u8]) -> Result<List<u8>, TraceError>
 {
     let rows = read_rows(alloc, bytes)?;
     let text = report_text(alloc, &rows)?;
-    Ok(List::from_vec(text.into_bytes()))
+    Ok(List::from_vec(text))
 }

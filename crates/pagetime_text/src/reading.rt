@@ -6,8 +6,7 @@ ghost use Rattle.vmclock_time.specs.declared.limits.TheConstants.{MOST_PAGE_ROWS
 ghost use Rattle.pagetime_text.specs.Facts.{rows_in};
 
 use crate::held::Held;
-use csv::ByteRecord;
-use csv_records::{Records, TraceError};
+use csv_records::{Records, TraceError, roomy_row};
 use std::alloc::Global;
 use vmclock_time::PageRow;
 
@@ -19,7 +18,7 @@ pub fn read_rows(alloc: Global, bytes: &[u8]) -> Result<Vec<PageRow>, TraceError
     ensures begins { IfOk result (λ rows. BeginsWithPage rows.items) }
 {
     let mut ahead = Records::new(alloc, bytes);
-    let mut row = ByteRecord::new(alloc);
+    let mut row = roomy_row(alloc)?;
     let mut held = Held::new(alloc);
     'reading: loop {
         if !ahead.read(&mut row)? {

@@ -40,13 +40,11 @@ fn client_named(field: &[u8]) -> Option<Party>
 fn party_named(field: &[u8]) -> Option<Party>
     ensures { result ≡ party_named field.now }
 {
-    if field == b"h".as_slice() {
-        return Some(Party::Host);
+    match field {
+        [b'h'] => Some(Party::Host),
+        [b'd'] => Some(Party::Daemon),
+        _ => client_named(field),
     }
-    if field == b"d".as_slice() {
-        return Some(Party::Daemon);
-    }
-    client_named(field)
 }
 
 /// The party at a place.

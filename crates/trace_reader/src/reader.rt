@@ -8,15 +8,14 @@ ghost use Rattle.trace_reader.specs.Grammar.{trace_in};
 
 use crate::held::Held;
 use clock_gate::Trace;
-use csv::ByteRecord;
-use csv_records::{Records, TraceError};
+use csv_records::{Records, TraceError, roomy_row};
 use std::alloc::Global;
 
 fn read_records(alloc: Global, bytes: &[u8]) -> Result<Trace, TraceError>
     ensures { Answers result (trace_in bytes.now) }
 {
     let mut records = Records::new(alloc, bytes);
-    let mut row = ByteRecord::new(alloc);
+    let mut row = roomy_row(alloc)?;
     let mut held = Held::new(alloc);
     'reading: while records.read(&mut row)? {
         held.take(alloc, &row)?;

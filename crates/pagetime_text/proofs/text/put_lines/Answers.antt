@@ -1,5 +1,5 @@
 use Rattle.std.proofs.Common.{◌≡◌, ◌++◌, ◌+◌, [], ℕ, List, drop, get_or, arith, ap, sym, ◌∙◌, append_assoc, pos}
-use Rattle.std.specs.String.{string_bytes}
+use Rattle.std.specs.Prelude.{vec_items}
 use Rattle.std.proofs.lemmas.List.{drop_all, append-nil}
 use Rattle.vmclock_time.specs.declared.rows.PageTold.TheVariants.{Time}
 use Rattle.pagetime_text.specs.Text.{told_line, told_lines}
@@ -13,9 +13,9 @@ lines-preserved c =
     let d = Time (pos 0) (pos 0) in
     let more = told_lines-more told i d (omega (arith, c.lines-test.true)) in
     rw c.in_ok-put_told.ensures
-    (append_assoc (string_bytes c.lines.text) (told_line (get_or told i d)) (told_lines (drop (i + 1) told)) ∙ ap (λ (lines : List ℕ). string_bytes c.lines.text ++ lines) (sym more) ∙ c.lines.invariant)
+    (append_assoc (vec_items c.lines.text) (told_line (get_or told i d)) (told_lines (drop (i + 1) told)) ∙ ap (λ (lines : List ℕ). vec_items c.lines.text ++ lines) (sym more) ∙ c.lines.invariant)
 
 pub returns : goal.returns
 returns c =
     let over : drop c.lines.line-index c.args.told.now ≡ [] = drop_all c.lines.line-index c.args.told.now (omega (arith, c.lines-test.false)) in
-    sym (append-nil (string_bytes c.lines.text)) ∙ rw (over, told_lines-none) at c.lines.invariant
+    sym (append-nil (vec_items c.lines.text)) ∙ rw (over, told_lines-none) at c.lines.invariant

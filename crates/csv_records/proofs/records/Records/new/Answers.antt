@@ -7,5 +7,6 @@ use Rattle.csv_records.proofs.records.Records.new.Goals as goal
 pub returns : goal.returns
 returns c =
     let from = c.from_reader-reader.ensures in
-    let all : records_ahead c.from_reader-reader.result ≡ records_of c.args.bytes.now = records_ahead-new c.args.bytes.now c.from_reader-reader.result from.source from.state in
+    let all : records_ahead c.from_reader-reader.result ≡ records_of c.args.bytes.now =
+    records_ahead-new c.without_feeds.result.now c.from_reader-reader.result from.source from.state ∙ c.without_feeds.ensures in
     record { all = all; most = rw all (length-records_of c.args.bytes.now); plain = λ plain. all ∙ records_of-rows c.args.bytes.now plain }

@@ -1,7 +1,7 @@
 use Rattle.std.proofs.Common.{◌≡◌, false, rules}
 use Rattle.std.specs.Prelude.{◌==◌, get_or}
 use Rattle.csv_records.proofs.Numerals.{bytes_are_none, parsed, read_as, too_large}
-use Rattle.csv_records.proofs.fields.written_value.Goals as goal
+use Rattle.csv_records.proofs.fields.parsed_value.Goals as goal
 
 pub returns-in-Ok-clause-digits : goal.returns-in-Ok-clause-digits
 returns-in-Ok-clause-digits c =
