@@ -1,5 +1,5 @@
 -- The acts of a step machine, and what a machine comes to for the values that it was given. This project's own.
-use Rattle.std.specs.Prelude.{◌≡◌, ◌≢◌, ℕ, ◌<◌, Bool, if◌then◌else◌, List, [], ◌∷◌}
+use Rattle.std.specs.Prelude.{◌≡◌, ◌≢◌, ℕ, ◌+◌, ◌<◌, Bool, if◌then◌else◌, List, [], ◌∷◌}
 use Rattle.clock_gate.specs.declared.act.Act.{Act}
 use Rattle.clock_gate.specs.declared.act.Act.TheVariants.{Load, Store, End}
 
@@ -29,6 +29,16 @@ pub record Touch : Type 0 where
 
 abbrev pub act_of_touch : Touch → Act
 act_of_touch touch = if touch.stored then Store touch.word touch.value else Load touch.word
+
+-- the values of these steps
+abbrev pub values_of : List Touch → List ℕ
+values_of [] = []
+values_of (touch ∷ touches) = touch.value ∷ values_of touches
+
+-- how many of these steps are stores
+abbrev pub stores_in : List Touch → ℕ
+stores_in [] = 0
+stores_in (touch ∷ touches) = (if touch.stored then 1 else 0) + stores_in touches
 
 -- any step machine, by the act that it wants and by what a value makes of it
 module _ {Machine : Type 0} (act : Machine → Act) (given : Machine → ℕ → Machine) where

@@ -8,7 +8,7 @@ use Rattle.clock_gate.specs.declared.act.Act.TheVariants.{Load, Store, End}
 use Rattle.clock_gate.specs.declared.clock_row.ClockRow.{ClockRow}
 use Rattle.clock_gate.specs.declared.clock_row.Reading.{Reading}
 use Rattle.clock_gate.specs.declared.limits.TheConstants.{MOST_STORES}
-use Rattle.clock_gate.specs.Acts.{Touch, Wanted, WereAsked, after, replayed, act_of_touch}
+use Rattle.clock_gate.specs.Acts.{Touch, Wanted, WereAsked, after, replayed, act_of_touch, values_of, stores_in}
 use Rattle.segment_layout.specs.Words.{flag_of}
 use Rattle.segment_layout.specs.declared.publication.Publication.{Publication}
 use Rattle.seqlock.specs.Tries as tries
@@ -33,7 +33,7 @@ use Rattle.writer_reopen.specs.Progress.{Progress, Asks, act_of, end_of, in_orde
 use Rattle.writer_reopen.proofs.Cut.{act_before_stop, act_at_stop}
 use Rattle.writer_reopen.proofs.Causes.{skipped, stopped, published}
 use Rattle.writer_reopen.proofs.Polls.{stage_nearer, follows_its_values}
-use Rattle.segment_rule.specs.Polls.{values_of, stores_in, page_by, IsPageBusy, IsPageSeen, stores_told, HasCause}
+use Rattle.segment_rule.specs.Polls.{page_by, IsPageBusy, IsPageSeen, stores_told, HasCause}
 use Rattle.segment_rule.proofs.Stores.{no_load}
 
 -- ---- stores

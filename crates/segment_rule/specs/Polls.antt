@@ -2,12 +2,12 @@
 use Rattle.std.specs.Prelude.{◌≡◌, ◌≢◌, ◌↔◌, ℕ, ◌+◌, ◌*◌, ◌%◌, ◌<◌, ◌≤◌, ◌==◌, Bool, true, false, List, [], ◌∷◌, ◌++◌, length, slice_index, Option, Some, None, is_some, unwrap_or, if◌then◌else◌}
 use Rattle.clock_gate.specs.declared.clock_row.ClockRow.{ClockRow}
 use Rattle.clock_gate.specs.declared.limits.TheConstants.{MOST_STORES}
-use Rattle.clock_gate.specs.Acts.{Touch, Wanted, replayed}
+use Rattle.clock_gate.specs.Acts.{Touch, Wanted, replayed, values_of, stores_in}
 use Rattle.generation_word.specs.Header.{word1_of, generation_in}
 use Rattle.segment_layout.specs.declared.publication.Publication.{Publication}
 use Rattle.segment_layout.specs.History.{History}
 use Rattle.segment_layout.specs.Record.{KeepsBounds}
-use Rattle.segment_layout.specs.Words.{record_words, flag_of}
+use Rattle.segment_layout.specs.Words.{record_words}
 use Rattle.seqlock.specs.Tries.{end_of, read_of}
 use Rattle.vmclock_page.specs.declared.page_seen.PageSeen.{PageSeen}
 use Rattle.vmclock_page.specs.declared.page_seen.PageSeen.TheVariants.{Marker, Busy}
@@ -131,15 +131,6 @@ SupportAfter support (Skipped first last) = Unit {0}
 SupportAfter support (Stopped stores) = Unit {0}
 
 -- ---- why it answers as it does
-
-abbrev pub values_of : List Touch → List ℕ
-values_of [] = []
-values_of (touch ∷ touches) = touch.value ∷ values_of touches
-
--- how many of these steps are stores
-abbrev pub stores_in : List Touch → ℕ
-stores_in [] = 0
-stores_in (touch ∷ touches) = flag_of touch.stored + stores_in touches
 
 -- what the tries of the page come to, which follow on a poll's first load
 abbrev pub page_by : (tries : ℕ) → List Touch → Option PageSeen
