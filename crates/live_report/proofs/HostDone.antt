@@ -15,13 +15,7 @@ use Rattle.segment_views.specs.Seats.{pages_at_first, first_host_part}
 use Rattle.segment_rule.specs.Hosts.{row_added, page_added, part_after}
 use Rattle.lawful_report.specs.Pages.{row_markers, last_page, marker_from, marker_at}
 use Rattle.live_report.specs.LiveRun.{setup_of, part_after_rows}
-
--- the words of the page rows
-abbrev pub page_words : List HostRow → List (List ℕ)
-page_words [] = []
-page_words (Clock number ∷ rows) = page_words rows
-page_words (Page words ∷ rows) = words ∷ page_words rows
-page_words (Disrupt ∷ rows) = page_words rows
+use Rattle.live_report.specs.LiveLaws.{page_words}
 
 pages_after : (rows : List HostRow) (part : HostPart) → (part_after_rows rows part).pages ≡ part.pages ++ page_words rows
 pages_after [] part = sym (append-nil part.pages)
@@ -120,6 +114,22 @@ pages_by trace (Some start) rows part is host are all pages =
           ap (λ (l : List HostRow). marker_from trace.page l k) host
           ∙ (skip_clock trace.page rows k ∙ marker_known trace.page start rows k is (omega (arith, low, long)) ∙ ap (λ (l : List (List ℕ)). Some (slice_index (slice_index_or l k []) 2)) (sym pages));
     }
+
+stores_after : (rows : List HostRow) (part : HostPart) → part.stores ≡ 0 → (part_after_rows rows part).stores ≡ 0
+stores_after [] part none = none
+stores_after (Clock number ∷ rows) part none = stores_after rows (row_added part) none
+stores_after (Page words ∷ rows) part none = stores_after rows (page_added words part) refl
+stores_after (Disrupt ∷ rows) part none = stores_after rows part none
+
+-- the pages, and that no row is in hand
+pub all_pages : (trace : Trace) → IsGiven trace → (part : HostPart) → part ≡ part_after_rows (drop 1 trace.host) (first_host_part (setup_of trace)) → (part.pages ≡ pages_at_first trace.page ++ page_words trace.host) × (part.stores ≡ 0)
+all_pages trace given part is =
+    let f = first_row trace.host given.can.lawful.host.begins in
+    let first : HostPart = first_host_part (setup_of trace) in
+    let rows_are : part ≡ part_after_rows f.rows first = is ∙ ap (λ (l : List HostRow). part_after_rows (drop 1 l) first) f.is in (
+      ap (λ (p : HostPart). p.pages) rows_are ∙ (pages_after f.rows first ∙ ap (λ (l : List HostRow). pages_at_first trace.page ++ page_words l) (sym f.is)),
+      ap (λ (p : HostPart). p.stores) rows_are ∙ stores_after f.rows first refl,
+    )
 
 pub host_is_done : (trace : Trace) → IsGiven trace → HostDone trace (part_after_rows (drop 1 trace.host) (first_host_part (setup_of trace)))
 host_is_done trace given =

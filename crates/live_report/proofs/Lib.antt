@@ -18,4 +18,5 @@ pub mod PageAfter
 pub mod AnswersShown
 pub mod ClientsShown
 pub mod ReportText
+pub mod CallsMade
 pub mod LiveLawful

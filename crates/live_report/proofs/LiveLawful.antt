@@ -23,6 +23,7 @@ use Rattle.segment_views.specs.declared.setup.Setup.{Setup}
 use Rattle.segment_views.specs.Views.{Begins, DaemonPart, HostPart, SeatView, first_segment, point_of}
 use Rattle.segment_views.specs.Views as views
 use Rattle.segment_views.specs.Seats.{first_host_part}
+use Rattle.segment_views.specs.Steps.{calls_of as calls_in}
 use Rattle.segment_rule.specs.Answered.{AnswersStand}
 use Rattle.segment_rule.specs.Settled.{AreSettled}
 use Rattle.lawful_report.specs.declared.counts.Counts.{Counts}
@@ -37,8 +38,8 @@ use Rattle.live_report.specs.ClientCalls.{AllClientCalls, answer_lines, client_l
 use Rattle.live_report.specs.DaemonCalls.{DaemonPlace, place_first, DaemonCalls}
 use Rattle.live_report.specs.LiveRun.{setup_of, part_after_rows, IsRunOf}
 use Rattle.live_report.specs.LiveReport.{position_first, lines_printed, lines_counted, report_lines, report_of}
-use Rattle.live_report.specs.LiveLaws.{LiveReportsAreLawful, HistoriesAreOfLines, line_published, lines_published}
-use Rattle.live_report.proofs.HostDone.{HostDone, host_is_done}
+use Rattle.live_report.specs.LiveLaws.{LiveReportsAreLawful, HistoriesAreOfLines, HostsDoAllRows, CallsAreOfLines, line_published, lines_published}
+use Rattle.live_report.proofs.HostDone.{HostDone, all_pages, host_is_done}
 use Rattle.live_report.proofs.Started.{FewPages, few_pages, entry_told, Started, started}
 use Rattle.live_report.proofs.CourseFits.{half_point, LifeFits, PlaceFits}
 use Rattle.live_report.proofs.PollLines.{Within}
@@ -46,6 +47,7 @@ use Rattle.live_report.proofs.DaemonLines.{Leads, all_lead}
 use Rattle.live_report.proofs.PagesDone.{pages_done}
 use Rattle.live_report.proofs.ClientFits.{CourseTold}
 use Rattle.live_report.proofs.ClientsShown.{said_of, clients_shown}
+use Rattle.live_report.proofs.CallsMade.{daemon_calls, clients_hold}
 use Rattle.live_report.proofs.ReportText.{Matches, report_is}
 
 -- ---- before the first call
@@ -235,3 +237,15 @@ live_lawful threads stand trace lines host daemon clients given run few_polls = 
 
 pub live_histories : HistoriesAreOfLines
 live_histories trace lines host daemon clients given run = history_is trace lines host daemon clients given run
+
+pub live_hosts : HostsDoAllRows
+live_hosts trace lines host daemon clients given run =
+    let is = ap (λ (v : SeatView). v.host_part) run.host_rows in
+    let pages = all_pages trace given host.host_part is in
+    record { rows = ap (λ (p : HostPart). p.rows) is ∙ (host_is_done trace given).rows; pages = pages.0; none_in_hand = pages.1 }
+
+pub live_calls : CallsAreOfLines
+live_calls trace lines host daemon clients given run = (
+  ap calls_in run.daemon_seat ∙ daemon_calls trace (place_first (setup_of trace)) run.daemon_lines run.daemon_last run.daemon_calls,
+  clients_hold trace (setup_of trace) (range_with_len 1 trace.clients) run.answers clients run.client_calls,
+)
