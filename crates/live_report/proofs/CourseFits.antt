@@ -1,15 +1,14 @@
 -- Where the daemon has come, and how far its lines have come.
 use Rattle.std.proofs.Common.{◌≡◌, ℕ, zero, suc, ◌+◌, ◌-◌, ◌*◌, ◌/◌, ◌%◌, ◌<◌, ◌≤◌, Bool, true, false, List, [], ◌∷◌, ◌++◌, length, map, refl, sym, ap, ◌∙◌, subst, arith, inl, inr, Option, Some, None}
-use Rattle.std.specs.Prelude.{◌==◌, ◌&&◌, ◌⊎◌, nat_lt, if◌then◌else◌, slice_get, slice_index, slice_index_or, is_some}
+use Rattle.std.specs.Prelude.{◌==◌, ◌⊎◌, nat_lt, if◌then◌else◌, slice_get, slice_index_or, is_some}
 use Rattle.std.proofs.lemmas.Bool.{cases_lt, eq-eqb, ne_eqb}
 use Rattle.std.proofs.lemmas.Bool.Decides.{nat_tests}
 use Rattle.std.proofs.lemmas.Option.{slice_get-get_or}
 use Rattle.clock_gate.specs.declared.trace.Trace.{Trace}
 use Rattle.generation_word.specs.declared.layout.Layout.{Layout}
 use Rattle.generation_word.specs.declared.layout.Layout.TheVariants.{Two, Three}
-use Rattle.generation_word.specs.Header.{word1_of, header_of}
+use Rattle.generation_word.specs.Header.{word1_of}
 use Rattle.segment_layout.specs.declared.publication.Publication.{Publication}
-use Rattle.segment_layout.specs.declared.start.Start.{Start}
 use Rattle.segment_layout.specs.History.{AbstractSegment, start_seen}
 use Rattle.segment_layout.specs.Image.{is_old_header}
 use Rattle.segment_layout.specs.Record.{RecordFields}
@@ -26,7 +25,7 @@ use Rattle.status_machine.specs.declared.daemon.Daemon.{Daemon}
 use Rattle.status_machine.specs.Step.{ShowsPast}
 use Rattle.lawful_report.specs.declared.entry.Entry.{Entry}
 use Rattle.lawful_report.specs.Points.{segment_at}
-use Rattle.lawful_report.specs.Course.{Course, Life, entry_at, entry_or_none, last_entry, start_found}
+use Rattle.lawful_report.specs.Course.{Course, Life, entry_or_none, last_entry, start_found}
 use Rattle.live_report.specs.LiveRun.{setup_of}
 use Rattle.live_report.specs.DaemonCalls.{DaemonPlace}
 use Rattle.live_report.proofs.Started.{entry_told}

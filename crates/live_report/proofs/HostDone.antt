@@ -1,18 +1,18 @@
 -- What the host owns when it has done all rows: the rows of the clock and the pages of the trace, by their numbers.
-use Rattle.std.proofs.Common.{◌≡◌, ℕ, zero, suc, ◌+◌, ◌-◌, ◌<◌, ◌≤◌, List, [], ◌∷◌, ◌++◌, length, drop, take, map, refl, sym, ap, ◌∙◌, subst, arith, append_assoc, append-nil, Option, Some, None}
-use Rattle.std.specs.Prelude.{slice_index, slice_index_or, slice_get, All}
+use Rattle.std.proofs.Common.{◌≡◌, ℕ, zero, suc, ◌+◌, ◌-◌, ◌<◌, List, [], ◌∷◌, ◌++◌, length, drop, take, map, refl, sym, ap, ◌∙◌, subst, arith, append_assoc, append-nil, Option, Some, None}
+use Rattle.std.specs.Prelude.{slice_index, slice_index_or, slice_get}
 use Rattle.std.proofs.lemmas.List.Elements.{All-head, All-tail}
 use Rattle.std.proofs.lemmas.List.FromFn.{length-range_with_len}
 use Rattle.std.proofs.lemmas.Option.{slice_get-get_or}
 use Rattle.clock_gate.specs.declared.trace.HostRow.{HostRow}
 use Rattle.clock_gate.specs.declared.trace.HostRow.TheVariants.{Clock, Page, Disrupt}
 use Rattle.clock_gate.specs.declared.trace.Trace.{Trace}
-use Rattle.clock_gate.specs.Trace.{IsHostOf, clock_numbers}
+use Rattle.clock_gate.specs.Trace.{clock_numbers}
 use Rattle.vmclock_page.specs.Rows.{IsRowOf, ArePageRows}
 use Rattle.abstract_run.specs.Given.{IsGiven}
 use Rattle.segment_views.specs.Views.{HostPart}
 use Rattle.segment_views.specs.Seats.{pages_at_first, first_host_part}
-use Rattle.segment_rule.specs.Hosts.{row_added, page_added, part_after}
+use Rattle.segment_rule.specs.Hosts.{row_added, page_added}
 use Rattle.lawful_report.specs.Pages.{row_markers, last_page, marker_from, marker_at}
 use Rattle.live_report.specs.LiveRun.{setup_of, part_after_rows}
 use Rattle.live_report.specs.LiveLaws.{page_words}

@@ -1,5 +1,5 @@
 -- Every run of a trace has a lawful report, and the history of its lines.
-use Rattle.std.proofs.Common.{◌≡◌, ℕ, zero, suc, ◌+◌, ◌-◌, ◌*◌, ◌/◌, ◌<◌, ◌≤◌, Bool, true, false, List, [], ◌∷◌, ◌++◌, length, drop, map, refl, sym, ap, ◌∙◌, subst, arith, inl, inr, Option, Some, None}
+use Rattle.std.proofs.Common.{◌≡◌, ℕ, suc, ◌+◌, ◌/◌, ◌<◌, ◌≤◌, Bool, true, false, List, [], ◌∷◌, ◌++◌, length, drop, map, refl, sym, ap, ◌∙◌, subst, arith, inl, Option, None}
 use Rattle.std.specs.Prelude.{All, nat_lt, Result, Ok, Err, cond, if◌then◌else◌}
 use Rattle.std.specs.List.{range_with_len}
 use Rattle.std.proofs.lemmas.Bool.Decides.{nat_tests}
@@ -7,7 +7,7 @@ use Rattle.std.proofs.lemmas.List.Elements.{All-head}
 use Rattle.std.proofs.lemmas.List.FromFn.{length-range_with_len}
 use Rattle.clock_gate.specs.declared.trace.CallRow.{CallRow}
 use Rattle.clock_gate.specs.declared.trace.Trace.{Trace}
-use Rattle.clock_gate.specs.Trace.{IsLawfulTrace, larger, largest_from}
+use Rattle.clock_gate.specs.Trace.{larger, largest_from}
 use Rattle.generation_word.specs.declared.layout.Layout.{Layout}
 use Rattle.generation_word.specs.declared.layout.Layout.TheVariants.{Two, Three}
 use Rattle.generation_word.specs.Layout.{period_of}
@@ -29,13 +29,13 @@ use Rattle.segment_rule.specs.Settled.{AreSettled}
 use Rattle.lawful_report.specs.declared.counts.Counts.{Counts}
 use Rattle.lawful_report.specs.declared.printed.Printed.{Printed}
 use Rattle.lawful_report.specs.declared.printed.Printed.TheVariants as printed
-use Rattle.lawful_report.specs.Course.{Course, Life, course_by, course_start}
-use Rattle.lawful_report.specs.Lawful.{no_counts, Standing, standing_start, due_next, going_on, Follow, text_of_lines, IsLawfulReport, opening_or_poll, Answering}
+use Rattle.lawful_report.specs.Course.{Life, course_by, course_start}
+use Rattle.lawful_report.specs.Lawful.{no_counts, Standing, standing_start, going_on, Follow, text_of_lines, IsLawfulReport, opening_or_poll, Answering}
 use Rattle.lawful_report.specs.Calls.{seen_first, calls_of}
 use Rattle.lawful_report.specs.Composed.{clients_next, ThreadsAreLawful}
 use Rattle.live_report.specs.declared.line.Line.{Line}
 use Rattle.live_report.specs.ClientCalls.{AllClientCalls, answer_lines, client_lines}
-use Rattle.live_report.specs.DaemonCalls.{DaemonPlace, place_first, DaemonCalls}
+use Rattle.live_report.specs.DaemonCalls.{place_first}
 use Rattle.live_report.specs.LiveRun.{setup_of, part_after_rows, IsRunOf}
 use Rattle.live_report.specs.LiveReport.{position_first, lines_printed, lines_counted, report_lines, report_of}
 use Rattle.live_report.specs.LiveLaws.{LiveReportsAreLawful, HistoriesAreOfLines, HostsDoAllRows, CallsAreOfLines, line_published, lines_published}
