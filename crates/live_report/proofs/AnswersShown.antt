@@ -42,12 +42,9 @@ use Rattle.live_report.proofs.HostDone.{HostDone}
 use Rattle.live_report.proofs.PageTries.{page_fails}
 use Rattle.live_report.proofs.PageNumbers.{busy_told}
 use Rattle.live_report.proofs.SegmentTries.{FailsOdd, FailsChanged, segment_fails, finds_nothing}
+use Rattle.live_report.proofs.PollLines.{no_page}
 use Rattle.live_report.proofs.ClientFits.{CourseTold, ClientWithin, shown_of, entry_page, ReadAt, read_at}
 use Rattle.live_report.proofs.PageAfter.{PageShown, page_shown}
-
-no_page : (page : Option (List ℕ)) → is_some page ≡ false → page ≡ None
-no_page None is = refl
-no_page (Some words) is = absurd (cc is)
 
 module _ (trace : Trace) (few : FewPages trace) (host : HostPart) (done : HostDone trace host) (history : History) (course : Course) (told : CourseTold trace history course) (w : SeatView) (within : ClientWithin trace host history course w)
     (sound : IsSoundCall w) (start : (course_start trace).point ≤ w.before.point) (seen : Seen) (point_low : seen.point ≤ w.before.point) (row_low : seen.row ≤ w.before.rows) (page_low : seen.page ≤ w.before.page_point / 2) (tries : ℕ) (some_tries : 0 < tries) where

@@ -23,7 +23,7 @@ use Rattle.lawful_report.specs.Pages.{last_page}
 use Rattle.lawful_report.specs.Course.{Course, entry_at, course_start}
 use Rattle.live_report.specs.LiveRun.{setup_of}
 use Rattle.live_report.proofs.Started.{entry_told}
-use Rattle.live_report.proofs.CourseFits.{get_map}
+use Rattle.live_report.proofs.Lists.{get_map}
 use Rattle.live_report.proofs.SegmentTries.{number_told, even_point}
 
 -- what the daemon's lines came to, as a client needs it: the entries are those of a history, and no point of the run is a period away

@@ -1,9 +1,8 @@
 -- What the host owns when it has done all rows: the rows of the clock and the pages of the trace, by their numbers.
-use Rattle.std.proofs.Common.{◌≡◌, ℕ, zero, suc, ◌+◌, ◌-◌, ◌<◌, List, [], ◌∷◌, ◌++◌, length, drop, take, map, refl, sym, ap, ◌∙◌, subst, arith, append_assoc, append-nil, Option, Some, None}
+use Rattle.std.proofs.Common.{◌≡◌, ℕ, suc, ◌+◌, ◌-◌, ◌<◌, List, [], ◌∷◌, ◌++◌, length, drop, take, map, refl, sym, ap, ◌∙◌, subst, arith, append_assoc, append-nil, Option, Some, None}
 use Rattle.std.specs.Prelude.{slice_index, slice_index_or, slice_get}
 use Rattle.std.proofs.lemmas.List.Elements.{All-head, All-tail}
 use Rattle.std.proofs.lemmas.List.FromFn.{length-range_with_len}
-use Rattle.std.proofs.lemmas.Option.{slice_get-get_or}
 use Rattle.clock_gate.specs.declared.trace.HostRow.{HostRow}
 use Rattle.clock_gate.specs.declared.trace.HostRow.TheVariants.{Clock, Page, Disrupt}
 use Rattle.clock_gate.specs.declared.trace.Trace.{Trace}
@@ -14,6 +13,7 @@ use Rattle.segment_views.specs.Views.{HostPart}
 use Rattle.segment_views.specs.Seats.{pages_at_first, first_host_part}
 use Rattle.segment_rule.specs.Hosts.{row_added, page_added}
 use Rattle.lawful_report.specs.Pages.{row_markers, last_page, marker_from, marker_at}
+use Rattle.live_report.proofs.Lists.{length_map, get_map}
 use Rattle.live_report.specs.LiveRun.{setup_of, part_after_rows}
 use Rattle.live_report.specs.LiveLaws.{page_words}
 
@@ -41,15 +41,6 @@ markers_are (Clock number ∷ rows) = markers_are rows
 markers_are (Page words ∷ rows) = ap (λ (l : List ℕ). slice_index words 2 ∷ l) (markers_are rows)
 markers_are (Disrupt ∷ rows) = markers_are rows
 
-length_map : (xs : List (List ℕ)) → length (map marker_of xs) ≡ length xs
-length_map [] = refl
-length_map (x ∷ xs) = let rest = length_map xs in omega (arith, rest)
-
-mapped_at : (xs : List (List ℕ)) (k : ℕ) → k < length xs → slice_index (map marker_of xs) k ≡ marker_of (slice_index_or xs k [])
-mapped_at [] k low = absurd (omega arith)
-mapped_at (x ∷ xs) zero low = refl
-mapped_at (x ∷ xs) (suc k) low = mapped_at xs k (omega arith)
-
 no_pages : (rows : List HostRow) → ArePageRows None rows → page_words rows ≡ []
 no_pages [] are = refl
 no_pages (Clock number ∷ rows) are = no_pages rows (All-tail (IsRowOf None) (Clock number) rows are)
@@ -72,10 +63,7 @@ marker_known None start rows k is low = absurd (cc is)
 marker_known (Some page) start rows k is low =
     let same : page ≡ start = cc is in
     let markers : slice_index page 2 ∷ row_markers rows ≡ map marker_of (start ∷ page_words rows) = (λ j. slice_index (same j) 2 ∷ markers_are rows j) in
-    let long = length_map (start ∷ page_words rows) in
-    ap (λ (l : List ℕ). slice_get l k) markers
-    ∙ slice_get-get_or (map marker_of (start ∷ page_words rows)) k 0 (omega (arith, low, long))
-    ∙ ap Some (mapped_at (start ∷ page_words rows) k low)
+    ap (λ (l : List ℕ). slice_get l k) markers ∙ get_map marker_of (start ∷ page_words rows) k [] low
 
 skip_clock : (page : Option (List ℕ)) (rows : List HostRow) (k : ℕ) → marker_from page (Clock 1 ∷ rows) k ≡ marker_from page rows k
 skip_clock None rows k = refl
@@ -105,7 +93,7 @@ pages_by trace None rows part is host are all pages =
     }
 pages_by trace (Some start) rows part is host are all pages =
     let long : length part.pages ≡ suc (length (page_words rows)) = ap (λ (l : List (List ℕ)). length l) pages in
-    let markers : length (row_markers trace.host) ≡ length (page_words rows) = ap (λ (l : List HostRow). length (row_markers l)) host ∙ (ap (λ (l : List ℕ). length l) (markers_are rows) ∙ length_map (page_words rows)) in
+    let markers : length (row_markers trace.host) ≡ length (page_words rows) = ap (λ (l : List HostRow). length (row_markers l)) host ∙ (ap (λ (l : List ℕ). length l) (markers_are rows) ∙ length_map marker_of (page_words rows)) in
     record {
       rows = all;
       pages = omega (arith, long, markers);

@@ -27,7 +27,8 @@ use Rattle.lawful_report.specs.Course.{Course, Life, first_entry, last_entry, ne
 use Rattle.lawful_report.specs.Lawful.{Due, Opening, Moving, Polling, Standing, due_next, going_on, FollowsAt, Follows, Follow}
 use Rattle.live_report.specs.DaemonCalls.{DaemonPlace, OpensNext}
 use Rattle.live_report.proofs.Started.{Started, entry_told}
-use Rattle.live_report.proofs.CourseFits.{SegmentFits, place, last_known, last_base, found_same, LifeFits, IsFirst, IsNew, PlaceFits, own_is_new, sound_grows, map_append, at_the_end}
+use Rattle.live_report.proofs.Lists.{map_append}
+use Rattle.live_report.proofs.CourseFits.{SegmentFits, place, last_known, last_base, found_same, LifeFits, IsFirst, IsNew, PlaceFits, own_is_new, sound_grows, at_the_end}
 
 -- ---- what is due
 

@@ -14,7 +14,7 @@ use Rattle.segment_views.specs.Steps.{loaded, IsWholePageRead}
 use Rattle.segment_views.specs.Shown.{touches_of, Climbs, StandsPage, PageSoundFrom}
 use Rattle.segment_rule.proofs.ReadRecord.{head}
 use Rattle.live_report.proofs.Loads.{load_at}
-use Rattle.live_report.proofs.LastTry.{last_try}
+use Rattle.live_report.proofs.LastTry.{same_pair, last_try}
 
 constants_small : (p : Option (List ℕ)) → constants_of p < 2 ^ 32
 constants_small None = omega arith
@@ -36,9 +36,6 @@ pub record PageFails (c : Setup) (from to first last : ℕ) : Type 0 where
   pub first_is : first ≡ raised one (count_of c.page)
   pub last_is : last ≡ raised two (count_of c.page)
   pub fails : ((first % 2 ≡ 1) × (two ≡ one)) ⊎ ((first % 2 ≡ 0) × (last ≢ first))
-
-same_pair : (a b c d : ℕ) → ◌≡◌ {A = ℕ × ℕ} (a, b) (c, d) → (a ≡ c) × (b ≡ d)
-same_pair a b c d e = (ap (λ (p : ℕ × ℕ). p.0) e, ap (λ (p : ℕ × ℕ). p.1) e)
 
 module _ (c : Setup) (from to : ℕ) (steps : List Step) (climbs : Climbs 11 (StandsPage c) from steps to) where
   fails_by : (front back : List Touch) (try : FailedTry) (first last : ℕ) → touches_of steps ≡ front ++ (steps_of page_lock try ++ back) → HasFailed page_lock try → numbers_after page_lock.number_in (0, 0) (try ∷ []) ≡ (first, last)

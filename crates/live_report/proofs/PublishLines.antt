@@ -45,7 +45,8 @@ use Rattle.live_report.proofs.PollRun.{Saw, TakenAt}
 use Rattle.live_report.proofs.HostDone.{HostDone}
 use Rattle.live_report.proofs.Started.{FewPages, entry_told}
 use Rattle.live_report.proofs.PageNumbers.{found_told}
-use Rattle.live_report.proofs.CourseFits.{SegmentFits, place, LifeFits, PlaceFits, map_append, at_the_end}
+use Rattle.live_report.proofs.Lists.{map_append}
+use Rattle.live_report.proofs.CourseFits.{SegmentFits, place, LifeFits, PlaceFits, at_the_end}
 use Rattle.live_report.proofs.PollLines.{Within, TookPage, PollFacts, no_page}
 
 module _ (trace : Trace) (few : FewPages trace) (host : HostPart) (done : HostDone trace host) (some_tries : 0 < trace.tries) (p q : DaemonPlace) (poll : ℕ) (polled : Polled) (course : Course) (counts : Counts) (fits : PlaceFits trace p course) (x : PollsNext trace p poll polled q) (within : Within trace host q.view) (facts : PollFacts trace p q poll x.row x.daemon course) where

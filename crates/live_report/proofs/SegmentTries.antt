@@ -17,7 +17,7 @@ use Rattle.segment_views.specs.Shown.{touches_of, Climbs, SteadyFrom}
 use Rattle.segment_rule.proofs.Times.{numbered}
 use Rattle.segment_rule.proofs.ReadRecord.{try_loads}
 use Rattle.live_report.proofs.Loads.{load_at}
-use Rattle.live_report.proofs.LastTry.{last_try}
+use Rattle.live_report.proofs.LastTry.{same_pair, last_try}
 
 -- a word of some generation tells the number of its point
 pub number_told : (c : Setup) (word point : ℕ) → StandsPoint c word point → (generation_in word == 0) ≡ false → generation_in word ≡ number_of_point c.layout point
@@ -28,9 +28,6 @@ number_told c word point (inr header) some = header_tells c.layout word (number_
 steady_back : (t : SegmentTry) (xs ys : List Step) → SteadyFrom t (xs ++ ys) → SteadyFrom (segment_try_after t xs) ys
 steady_back t [] ys h = h
 steady_back t (x ∷ xs) ys h = steady_back (after_step t x) xs ys h.1
-
-same_pair : (a b c d : ℕ) → ◌≡◌ {A = ℕ × ℕ} (a, b) (c, d) → (a ≡ c) × (b ≡ d)
-same_pair a b c d e = (ap (λ (p : ℕ × ℕ). p.0) e, ap (λ (p : ℕ × ℕ). p.1) e)
 
 -- the last try failed by an odd number, at this point
 pub record FailsOdd (c : Setup) (from to first last : ℕ) : Type 0 where
