@@ -1,16 +1,13 @@
 -- What the loads of a client's call show of its answer.
-use Rattle.std.proofs.Common.{◌≡◌, ◌≢◌, ℕ, zero, suc, ◌+◌, ◌-◌, ◌*◌, ◌/◌, ◌%◌, ◌<◌, ◌≤◌, Bool, true, false, List, [], ◌∷◌, ◌++◌, length, refl, sym, ap, ◌∙◌, subst, arith, append_assoc, append-nil, inl, inr, Option, Some, None, Result, Ok, Err}
-use Rattle.std.specs.Prelude.{◌⊎◌, slice_index, is_some, pos, ◌<ℤ◌}
-use Rattle.clock_gate.specs.declared.clock_row.ClockRow.{ClockRow}
+use Rattle.std.proofs.Common.{◌≡◌, ℕ, ◌+◌, ◌/◌, ◌<◌, ◌≤◌, Bool, true, false, List, [], ◌∷◌, ◌++◌, refl, sym, ap, ◌∙◌, subst, arith, append_assoc, append-nil, inl, inr, Option, Some, None, Result, Ok, Err}
+use Rattle.std.specs.Prelude.{◌⊎◌, is_some}
 use Rattle.clock_gate.specs.declared.trace.Trace.{Trace}
-use Rattle.clock_gate.specs.ClockRow.{row_at, reading_at}
+use Rattle.clock_gate.specs.ClockRow.{row_at}
 use Rattle.clock_gate.specs.Acts.{Touch}
 use Rattle.generation_word.specs.Layout.{period_of}
-use Rattle.seqlock.specs.TriedRun.{load, FindsWords, FindsNothing, FailsAlways}
+use Rattle.seqlock.specs.TriedRun.{load, FindsNothing, FailsAlways}
 use Rattle.vmclock_page.specs.Host.{count_of}
 use Rattle.vmclock_page.specs.Counting.{page_number_of}
-use Rattle.vmclock_page.specs.PageRead.{page_lock}
-use Rattle.vmclock_page.specs.Words.{count_in_word}
 use Rattle.segment_layout.specs.declared.publication.Publication.{Publication}
 use Rattle.segment_layout.specs.History.{History}
 use Rattle.segment_layout.specs.Record.{RecordFields}
@@ -22,7 +19,7 @@ use Rattle.interval_now.specs.declared.answers.Answer.TheVariants as answers
 use Rattle.interval_now.specs.declared.answers.Causality.{Causality}
 use Rattle.interval_now.specs.declared.answers.Interval.{Interval}
 use Rattle.interval_now.specs.declared.answers.Timed.{Timed}
-use Rattle.interval_now.specs.Call.{timed, answer_of}
+use Rattle.interval_now.specs.Call.{timed}
 use Rattle.interval_now.specs.CallRun.{answer_without_record, CallDid}
 use Rattle.interval_now.specs.Interval.{interval_of}
 use Rattle.interval_now.proofs.CallRun.{call_did}
@@ -34,26 +31,20 @@ use Rattle.segment_views.specs.Shown.{touches_of, Climbs, StandsPage, StandsRow,
 use Rattle.segment_rule.specs.Calls.{Nows}
 use Rattle.segment_rule.specs.Answered.{HasRead, IsPageRead, IsTimed, IsEarly, IsPageBusy, IsAnsweredBy}
 use Rattle.segment_rule.proofs.ReadRecord.{to_last}
-use Rattle.lawful_report.specs.declared.entry.Entry.{Entry}
 use Rattle.lawful_report.specs.declared.seen.Seen.{Seen}
-use Rattle.lawful_report.specs.Points.{number_at, HasNumber}
-use Rattle.lawful_report.specs.Pages.{last_page, marker_at, marker_from, page_seen, PageTriesFail}
-use Rattle.lawful_report.specs.Calls.{GivesInterval, HasAsOf, HasMono}
+use Rattle.lawful_report.specs.Pages.{marker_from}
 use Rattle.lawful_report.specs.Course.{Course, course_start}
-use Rattle.lawful_report.specs.Showed.{IsOneOf, ShowsTime, ShowsOdd, ShowsChange, ShowsBusy, ShowsEarly, IsNotPast, ShowsPageBusy, ShowsNothing, Shows}
+use Rattle.lawful_report.specs.Showed.{ShowsOdd, ShowsChange, IsNotPast, Shows}
 use Rattle.live_report.specs.LiveRun.{setup_of}
 use Rattle.live_report.specs.LiveReport.{page_told}
 use Rattle.live_report.proofs.Started.{FewPages, entry_told}
 use Rattle.live_report.proofs.HostDone.{HostDone}
-use Rattle.live_report.proofs.PageTries.{PageFails, page_fails}
+use Rattle.live_report.proofs.PageTries.{page_fails}
 use Rattle.live_report.proofs.PageNumbers.{busy_told}
 use Rattle.live_report.proofs.SegmentTries.{FailsOdd, FailsChanged, segment_fails, finds_nothing}
+use Rattle.live_report.proofs.PollLines.{no_page}
 use Rattle.live_report.proofs.ClientFits.{CourseTold, ClientWithin, shown_of, entry_page, ReadAt, read_at}
 use Rattle.live_report.proofs.PageAfter.{PageShown, page_shown}
-
-no_page : (page : Option (List ℕ)) → is_some page ≡ false → page ≡ None
-no_page None is = refl
-no_page (Some words) is = absurd (cc is)
 
 module _ (trace : Trace) (few : FewPages trace) (host : HostPart) (done : HostDone trace host) (history : History) (course : Course) (told : CourseTold trace history course) (w : SeatView) (within : ClientWithin trace host history course w)
     (sound : IsSoundCall w) (start : (course_start trace).point ≤ w.before.point) (seen : Seen) (point_low : seen.point ≤ w.before.point) (row_low : seen.row ≤ w.before.rows) (page_low : seen.page ≤ w.before.page_point / 2) (tries : ℕ) (some_tries : 0 < tries) where

@@ -1,9 +1,9 @@
 -- One call more at the end of a chain, and what further settling leaves.
-use Rattle.std.proofs.Common.{◌≡◌, ℕ, ◌+◌, ◌*◌, ◌-◌, ◌≤◌, List, [], ◌∷◌, ◌++◌, length, refl, sym, ap, ◌∙◌, subst, arith}
+use Rattle.std.proofs.Common.{ℕ, List, [], ◌∷◌, ◌++◌, refl, sym, ap, ◌∙◌, subst}
 use Rattle.clock_gate.specs.declared.clock_row.ClockRow.{ClockRow}
 use Rattle.clock_gate.specs.declared.trace.Trace.{Trace}
 use Rattle.interval_now.specs.declared.answers.Answer.{Answer}
-use Rattle.segment_views.specs.Views.{Begins, SeatView, point_of}
+use Rattle.segment_views.specs.Views.{SeatView}
 use Rattle.segment_rule.specs.Settled.{IsSameBut, AreSettled}
 use Rattle.live_report.specs.declared.line.Line.{Line}
 use Rattle.live_report.specs.DaemonCalls.{DaemonPlace, CallsNext, DaemonCalls}

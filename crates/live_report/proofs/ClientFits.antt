@@ -1,16 +1,13 @@
 -- A client's view beside what the daemon's lines came to: the entry at a point, and what a record that was read stands for.
-use Rattle.std.proofs.Common.{◌≡◌, ℕ, zero, suc, ◌+◌, ◌-◌, ◌*◌, ◌/◌, ◌%◌, ◌<◌, ◌≤◌, Bool, true, false, List, [], ◌∷◌, ◌++◌, length, get_or, map, refl, sym, ap, ◌∙◌, subst, arith, append_assoc, Option, Some, None, inl, inr}
-use Rattle.std.specs.Prelude.{◌==◌, nat_lt, if◌then◌else◌, slice_get, slice_index, slice_index_or, is_some}
+use Rattle.std.proofs.Common.{◌≡◌, ℕ, ◌+◌, ◌-◌, ◌*◌, ◌/◌, ◌%◌, ◌<◌, ◌≤◌, Bool, true, false, List, length, get_or, map, sym, ap, ◌∙◌, subst, arith, Some, None, inl, inr}
+use Rattle.std.specs.Prelude.{◌==◌, nat_lt, if◌then◌else◌, slice_get}
 use Rattle.std.proofs.lemmas.Bool.Decides.{nat_tests}
 use Rattle.std.proofs.lemmas.Bool.{cases_lt}
 use Rattle.std.proofs.lemmas.Option.{get_or_from_slice_get, slice_get_past}
 use Rattle.clock_gate.specs.declared.trace.Trace.{Trace}
 use Rattle.clock_gate.specs.Acts.{Touch}
-use Rattle.generation_word.specs.declared.layout.Layout.{Layout}
 use Rattle.generation_word.specs.Layout.{period_of}
 use Rattle.generation_word.specs.Header.{generation_in}
-use Rattle.vmclock_page.specs.Host.{count_of}
-use Rattle.vmclock_page.specs.Counting.{page_number_of}
 use Rattle.segment_layout.specs.declared.publication.Publication.{Publication}
 use Rattle.segment_layout.specs.History.{History}
 use Rattle.segment_layout.specs.Record.{RecordFields}
@@ -26,7 +23,7 @@ use Rattle.lawful_report.specs.Pages.{last_page}
 use Rattle.lawful_report.specs.Course.{Course, entry_at, course_start}
 use Rattle.live_report.specs.LiveRun.{setup_of}
 use Rattle.live_report.proofs.Started.{entry_told}
-use Rattle.live_report.proofs.CourseFits.{get_map}
+use Rattle.live_report.proofs.Lists.{get_map}
 use Rattle.live_report.proofs.SegmentTries.{number_told, even_point}
 
 -- what the daemon's lines came to, as a client needs it: the entries are those of a history, and no point of the run is a period away

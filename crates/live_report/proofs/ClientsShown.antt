@@ -1,28 +1,26 @@
 -- What the loads of all calls of all clients show.
-use Rattle.std.proofs.Common.{◌≡◌, ℕ, zero, suc, ◌+◌, ◌-◌, ◌*◌, ◌/◌, ◌<◌, ◌≤◌, Bool, true, false, List, [], ◌∷◌, ◌++◌, length, map, refl, sym, ap, ◌∙◌, subst, arith}
-use Rattle.std.specs.Prelude.{All, filter, ◌==◌, if◌then◌else◌, Option, Some, None}
+use Rattle.std.proofs.Common.{◌≡◌, ℕ, ◌<◌, ◌≤◌, Bool, true, false, List, [], ◌∷◌, length, map, refl, sym, ap, ◌∙◌, subst, arith}
+use Rattle.std.specs.Prelude.{All, filter, ◌==◌, if◌then◌else◌}
 use Rattle.std.proofs.lemmas.List.Elements.{All-head, All-tail, All-map, All-weaker, All-filter}
 use Rattle.clock_gate.specs.declared.trace.CallRow.{CallRow}
 use Rattle.clock_gate.specs.declared.trace.Trace.{Trace}
 use Rattle.clock_gate.specs.Trace.{IsCallRow}
 use Rattle.segment_layout.specs.History.{History}
 use Rattle.interval_now.specs.declared.answers.Answer.{Answer}
-use Rattle.segment_views.specs.declared.setup.Setup.{Setup}
 use Rattle.segment_views.specs.Views.{Begins, SeatView, HostPart, first_segment, point_of, page_point_of}
 use Rattle.segment_views.specs.Views as views
-use Rattle.segment_views.specs.Seats.{all_of, part_of, first_daemon_part, first_host_part, pages_at_first}
+use Rattle.segment_views.specs.Seats.{part_of}
 use Rattle.segment_views.proofs.Lists.{begins_self, begins_trans}
 use Rattle.segment_rule.specs.Answered.{AnswersStand}
 use Rattle.segment_rule.specs.Settled.{AreSettled}
 use Rattle.lawful_report.specs.declared.seen.Seen.{Seen}
-use Rattle.lawful_report.specs.Pages.{last_page}
 use Rattle.lawful_report.specs.Calls.{seen_first}
 use Rattle.lawful_report.specs.Course.{Course, course_start}
 use Rattle.lawful_report.specs.Showed.{IsNotPast, Said, AllShown}
 use Rattle.lawful_report.specs.Composed.{tries_of_client, ClientsShown}
 use Rattle.live_report.specs.LiveRun.{setup_of}
 use Rattle.live_report.specs.LiveReport.{page_told}
-use Rattle.live_report.specs.ClientCalls.{client_first, client_start, AsksNext, ClientCalls, AllClientCalls}
+use Rattle.live_report.specs.ClientCalls.{client_first, client_start, ClientCalls, AllClientCalls}
 use Rattle.live_report.proofs.Started.{FewPages, Started}
 use Rattle.live_report.proofs.HostDone.{HostDone}
 use Rattle.live_report.proofs.CourseFits.{Grows, sound_grows}

@@ -1,15 +1,13 @@
 -- Where the daemon has come, and how far its lines have come.
 use Rattle.std.proofs.Common.{◌≡◌, ℕ, zero, suc, ◌+◌, ◌-◌, ◌*◌, ◌/◌, ◌%◌, ◌<◌, ◌≤◌, Bool, true, false, List, [], ◌∷◌, ◌++◌, length, map, refl, sym, ap, ◌∙◌, subst, arith, inl, inr, Option, Some, None}
-use Rattle.std.specs.Prelude.{◌==◌, ◌&&◌, ◌⊎◌, nat_lt, if◌then◌else◌, slice_get, slice_index, slice_index_or, is_some}
+use Rattle.std.specs.Prelude.{◌==◌, ◌⊎◌, nat_lt, if◌then◌else◌, slice_get, slice_index_or, is_some}
 use Rattle.std.proofs.lemmas.Bool.{cases_lt, eq-eqb, ne_eqb}
 use Rattle.std.proofs.lemmas.Bool.Decides.{nat_tests}
-use Rattle.std.proofs.lemmas.Option.{slice_get-get_or}
 use Rattle.clock_gate.specs.declared.trace.Trace.{Trace}
 use Rattle.generation_word.specs.declared.layout.Layout.{Layout}
 use Rattle.generation_word.specs.declared.layout.Layout.TheVariants.{Two, Three}
-use Rattle.generation_word.specs.Header.{word1_of, header_of}
+use Rattle.generation_word.specs.Header.{word1_of}
 use Rattle.segment_layout.specs.declared.publication.Publication.{Publication}
-use Rattle.segment_layout.specs.declared.start.Start.{Start}
 use Rattle.segment_layout.specs.History.{AbstractSegment, start_seen}
 use Rattle.segment_layout.specs.Image.{is_old_header}
 use Rattle.segment_layout.specs.Record.{RecordFields}
@@ -26,9 +24,10 @@ use Rattle.status_machine.specs.declared.daemon.Daemon.{Daemon}
 use Rattle.status_machine.specs.Step.{ShowsPast}
 use Rattle.lawful_report.specs.declared.entry.Entry.{Entry}
 use Rattle.lawful_report.specs.Points.{segment_at}
-use Rattle.lawful_report.specs.Course.{Course, Life, entry_at, entry_or_none, last_entry, start_found}
+use Rattle.lawful_report.specs.Course.{Course, Life, entry_or_none, last_entry, start_found}
 use Rattle.live_report.specs.LiveRun.{setup_of}
 use Rattle.live_report.specs.DaemonCalls.{DaemonPlace}
+use Rattle.live_report.proofs.Lists.{get_map}
 use Rattle.live_report.proofs.Started.{entry_told}
 
 -- ---- points
@@ -44,23 +43,7 @@ writes_by p false = ne_eqb ((2 * p + 0) % 2) 1 (λ e. absurd (omega (arith, e)))
 pub at_point : (segment : SegmentRun) → segment_at (point_of segment) ≡ abstract_of segment
 at_point segment = λ j. record { position = half_point segment j; is_writing = writes_by segment.position segment.is_writing j }
 
--- ---- lists
-
-length_map : {A B : Type 0} (f : A → B) (xs : List A) → length (map f xs) ≡ length xs
-length_map f [] = refl
-length_map f (x ∷ xs) = let rest = length_map f xs in omega (arith, rest)
-
-map_at : {A B : Type 0} (f : A → B) (xs : List A) (k : ℕ) (d : A) → slice_index_or (map f xs) k (f d) ≡ f (slice_index_or xs k d)
-map_at f [] k d = refl
-map_at f (x ∷ xs) zero d = refl
-map_at f (x ∷ xs) (suc k) d = map_at f xs k d
-
-pub get_map : {A B : Type 0} (f : A → B) (xs : List A) (k : ℕ) (d : A) → k < length xs → slice_get (map f xs) k ≡ Some (f (slice_index_or xs k d))
-get_map f xs k d low = let long = length_map f xs in slice_get-get_or (map f xs) k (f d) (omega (arith, low, long)) ∙ ap Some (map_at f xs k d)
-
-pub map_append : {A B : Type 0} (f : A → B) (xs ys : List A) → map f (xs ++ ys) ≡ map f xs ++ map f ys
-map_append f [] ys = refl
-map_append f (x ∷ xs) ys = ap (λ l. f x ∷ l) (map_append f xs ys)
+-- ---- histories
 
 pub at_the_end : (xs : List Publication) (x : Publication) (k : ℕ) → k ≡ length xs → slice_index_or (xs ++ x ∷ []) k no_publication ≡ x
 at_the_end [] x k is = ap (λ (n : ℕ). slice_index_or (x ∷ []) n no_publication) is

@@ -1,15 +1,13 @@
 -- The daemon's lines follow one another in a report.
-use Rattle.std.proofs.Common.{◌≡◌, ℕ, zero, suc, ◌+◌, ◌-◌, ◌*◌, ◌/◌, ◌<◌, ◌≤◌, Bool, true, false, List, [], ◌∷◌, ◌++◌, length, append-nil, append_assoc, refl, sym, ap, ◌∙◌, subst, arith, inl, inr, Option, Some, None}
-use Rattle.std.specs.Prelude.{◌==◌, ◌⊎◌, nat_lt, if◌then◌else◌, slice_get, slice_index_or, All, IfSome}
+use Rattle.std.proofs.Common.{◌≡◌, ℕ, ◌+◌, ◌-◌, ◌/◌, ◌<◌, ◌≤◌, Bool, true, false, List, [], ◌∷◌, ◌++◌, length, append-nil, append_assoc, refl, sym, ap, ◌∙◌, subst, arith, inl, inr, Option, Some, None}
+use Rattle.std.specs.Prelude.{◌⊎◌, nat_lt, if◌then◌else◌, slice_get, All, IfSome}
 use Rattle.std.proofs.lemmas.Bool.Decides.{nat_tests}
 use Rattle.std.proofs.lemmas.List.Elements.{All-get_or}
 use Rattle.std.proofs.lemmas.Option.{get_or_from_slice_get}
 use Rattle.clock_gate.specs.declared.trace.PollRow.{PollRow}
 use Rattle.clock_gate.specs.declared.trace.Trace.{Trace}
 use Rattle.clock_gate.specs.Trace.{IsPollRow}
-use Rattle.generation_word.specs.declared.layout.Layout.{Layout}
-use Rattle.generation_word.specs.declared.layout.Layout.TheVariants.{Two, Three}
-use Rattle.segment_layout.specs.declared.start.Start.{Start}
+use Rattle.generation_word.specs.declared.layout.Layout.TheVariants.{Two}
 use Rattle.segment_layout.specs.History.{History}
 use Rattle.segment_run.specs.SegmentRun.{SegmentRun, published_at}
 use Rattle.segment_views.specs.Views.{HostPart, first_segment}
@@ -17,23 +15,21 @@ use Rattle.segment_views.specs.Shown.{touches_of}
 use Rattle.segment_views.proofs.Lists.{begins_trans}
 use Rattle.segment_rule.specs.Polls.{order_for, history_after, position_after}
 use Rattle.status_machine.specs.Poll.{heard_of}
-use Rattle.writer_reopen.specs.declared.order.Order.{Order}
 use Rattle.writer_reopen.specs.declared.polled.Polled.{Polled}
 use Rattle.writer_reopen.specs.declared.polled.Polled.TheVariants as polls
-use Rattle.writer_reopen.specs.declared.stage.Taken.{Taken}
 use Rattle.writer_reopen.specs.Poll.{polled_by}
 use Rattle.lawful_report.specs.declared.counts.Counts.{Counts}
 use Rattle.lawful_report.specs.declared.printed.Printed.{Printed}
 use Rattle.lawful_report.specs.declared.printed.Printed.TheVariants as printed
 use Rattle.lawful_report.specs.Course.{Course, opened, moved, ended}
-use Rattle.lawful_report.specs.Lawful.{going_on, has_stop, Follow}
+use Rattle.lawful_report.specs.Lawful.{going_on, Follow}
 use Rattle.lawful_report.proofs.Composed.{follow_on}
 use Rattle.live_report.specs.declared.line.Line.{Line}
 use Rattle.live_report.specs.declared.line.Line.TheVariants as lines
-use Rattle.live_report.specs.LiveReport.{stop_of, stop_by, stop_printed, poll_printed, move_printed, poll_counted, line_printed, position_moved, position_after_line, lines_printed, line_counted, lines_counted}
+use Rattle.live_report.specs.LiveReport.{stop_of, stop_by, stop_printed, poll_printed, poll_counted, line_printed, position_after_line, lines_printed, line_counted, lines_counted}
 use Rattle.live_report.specs.LiveRun.{setup_of}
 use Rattle.live_report.specs.LiveLaws.{published_by, lines_published}
-use Rattle.live_report.specs.DaemonCalls.{DaemonPlace, OpensNext, PollsNext, CallsNext, DaemonCalls}
+use Rattle.live_report.specs.DaemonCalls.{DaemonPlace, PollsNext, CallsNext, DaemonCalls}
 use Rattle.live_report.proofs.PollRun.{Missed, Told, poll_did}
 use Rattle.live_report.proofs.HostDone.{HostDone}
 use Rattle.live_report.proofs.Started.{FewPages, Started}

@@ -1,27 +1,21 @@
 -- What the host owns when it has done all rows: the rows of the clock and the pages of the trace, by their numbers.
-use Rattle.std.proofs.Common.{◌≡◌, ℕ, zero, suc, ◌+◌, ◌-◌, ◌<◌, ◌≤◌, List, [], ◌∷◌, ◌++◌, length, drop, take, map, refl, sym, ap, ◌∙◌, subst, arith, append_assoc, append-nil, Option, Some, None}
-use Rattle.std.specs.Prelude.{slice_index, slice_index_or, slice_get, All}
+use Rattle.std.proofs.Common.{◌≡◌, ℕ, suc, ◌+◌, ◌-◌, ◌<◌, List, [], ◌∷◌, ◌++◌, length, drop, take, map, refl, sym, ap, ◌∙◌, subst, arith, append_assoc, append-nil, Option, Some, None}
+use Rattle.std.specs.Prelude.{slice_index, slice_index_or, slice_get}
 use Rattle.std.proofs.lemmas.List.Elements.{All-head, All-tail}
 use Rattle.std.proofs.lemmas.List.FromFn.{length-range_with_len}
-use Rattle.std.proofs.lemmas.Option.{slice_get-get_or}
 use Rattle.clock_gate.specs.declared.trace.HostRow.{HostRow}
 use Rattle.clock_gate.specs.declared.trace.HostRow.TheVariants.{Clock, Page, Disrupt}
 use Rattle.clock_gate.specs.declared.trace.Trace.{Trace}
-use Rattle.clock_gate.specs.Trace.{IsHostOf, clock_numbers}
+use Rattle.clock_gate.specs.Trace.{clock_numbers}
 use Rattle.vmclock_page.specs.Rows.{IsRowOf, ArePageRows}
 use Rattle.abstract_run.specs.Given.{IsGiven}
 use Rattle.segment_views.specs.Views.{HostPart}
 use Rattle.segment_views.specs.Seats.{pages_at_first, first_host_part}
-use Rattle.segment_rule.specs.Hosts.{row_added, page_added, part_after}
+use Rattle.segment_rule.specs.Hosts.{row_added, page_added}
 use Rattle.lawful_report.specs.Pages.{row_markers, last_page, marker_from, marker_at}
+use Rattle.live_report.proofs.Lists.{length_map, get_map}
 use Rattle.live_report.specs.LiveRun.{setup_of, part_after_rows}
-
--- the words of the page rows
-abbrev pub page_words : List HostRow → List (List ℕ)
-page_words [] = []
-page_words (Clock number ∷ rows) = page_words rows
-page_words (Page words ∷ rows) = words ∷ page_words rows
-page_words (Disrupt ∷ rows) = page_words rows
+use Rattle.live_report.specs.LiveLaws.{page_words}
 
 pages_after : (rows : List HostRow) (part : HostPart) → (part_after_rows rows part).pages ≡ part.pages ++ page_words rows
 pages_after [] part = sym (append-nil part.pages)
@@ -47,15 +41,6 @@ markers_are (Clock number ∷ rows) = markers_are rows
 markers_are (Page words ∷ rows) = ap (λ (l : List ℕ). slice_index words 2 ∷ l) (markers_are rows)
 markers_are (Disrupt ∷ rows) = markers_are rows
 
-length_map : (xs : List (List ℕ)) → length (map marker_of xs) ≡ length xs
-length_map [] = refl
-length_map (x ∷ xs) = let rest = length_map xs in omega (arith, rest)
-
-mapped_at : (xs : List (List ℕ)) (k : ℕ) → k < length xs → slice_index (map marker_of xs) k ≡ marker_of (slice_index_or xs k [])
-mapped_at [] k low = absurd (omega arith)
-mapped_at (x ∷ xs) zero low = refl
-mapped_at (x ∷ xs) (suc k) low = mapped_at xs k (omega arith)
-
 no_pages : (rows : List HostRow) → ArePageRows None rows → page_words rows ≡ []
 no_pages [] are = refl
 no_pages (Clock number ∷ rows) are = no_pages rows (All-tail (IsRowOf None) (Clock number) rows are)
@@ -78,10 +63,7 @@ marker_known None start rows k is low = absurd (cc is)
 marker_known (Some page) start rows k is low =
     let same : page ≡ start = cc is in
     let markers : slice_index page 2 ∷ row_markers rows ≡ map marker_of (start ∷ page_words rows) = (λ j. slice_index (same j) 2 ∷ markers_are rows j) in
-    let long = length_map (start ∷ page_words rows) in
-    ap (λ (l : List ℕ). slice_get l k) markers
-    ∙ slice_get-get_or (map marker_of (start ∷ page_words rows)) k 0 (omega (arith, low, long))
-    ∙ ap Some (mapped_at (start ∷ page_words rows) k low)
+    ap (λ (l : List ℕ). slice_get l k) markers ∙ get_map marker_of (start ∷ page_words rows) k [] low
 
 skip_clock : (page : Option (List ℕ)) (rows : List HostRow) (k : ℕ) → marker_from page (Clock 1 ∷ rows) k ≡ marker_from page rows k
 skip_clock None rows k = refl
@@ -111,7 +93,7 @@ pages_by trace None rows part is host are all pages =
     }
 pages_by trace (Some start) rows part is host are all pages =
     let long : length part.pages ≡ suc (length (page_words rows)) = ap (λ (l : List (List ℕ)). length l) pages in
-    let markers : length (row_markers trace.host) ≡ length (page_words rows) = ap (λ (l : List HostRow). length (row_markers l)) host ∙ (ap (λ (l : List ℕ). length l) (markers_are rows) ∙ length_map (page_words rows)) in
+    let markers : length (row_markers trace.host) ≡ length (page_words rows) = ap (λ (l : List HostRow). length (row_markers l)) host ∙ (ap (λ (l : List ℕ). length l) (markers_are rows) ∙ length_map marker_of (page_words rows)) in
     record {
       rows = all;
       pages = omega (arith, long, markers);
@@ -120,6 +102,22 @@ pages_by trace (Some start) rows part is host are all pages =
           ap (λ (l : List HostRow). marker_from trace.page l k) host
           ∙ (skip_clock trace.page rows k ∙ marker_known trace.page start rows k is (omega (arith, low, long)) ∙ ap (λ (l : List (List ℕ)). Some (slice_index (slice_index_or l k []) 2)) (sym pages));
     }
+
+stores_after : (rows : List HostRow) (part : HostPart) → part.stores ≡ 0 → (part_after_rows rows part).stores ≡ 0
+stores_after [] part none = none
+stores_after (Clock number ∷ rows) part none = stores_after rows (row_added part) none
+stores_after (Page words ∷ rows) part none = stores_after rows (page_added words part) refl
+stores_after (Disrupt ∷ rows) part none = stores_after rows part none
+
+-- the pages, and that no row is in hand
+pub all_pages : (trace : Trace) → IsGiven trace → (part : HostPart) → part ≡ part_after_rows (drop 1 trace.host) (first_host_part (setup_of trace)) → (part.pages ≡ pages_at_first trace.page ++ page_words trace.host) × (part.stores ≡ 0)
+all_pages trace given part is =
+    let f = first_row trace.host given.can.lawful.host.begins in
+    let first : HostPart = first_host_part (setup_of trace) in
+    let rows_are : part ≡ part_after_rows f.rows first = is ∙ ap (λ (l : List HostRow). part_after_rows (drop 1 l) first) f.is in (
+      ap (λ (p : HostPart). p.pages) rows_are ∙ (pages_after f.rows first ∙ ap (λ (l : List HostRow). pages_at_first trace.page ++ page_words l) (sym f.is)),
+      ap (λ (p : HostPart). p.stores) rows_are ∙ stores_after f.rows first refl,
+    )
 
 pub host_is_done : (trace : Trace) → IsGiven trace → HostDone trace (part_after_rows (drop 1 trace.host) (first_host_part (setup_of trace)))
 host_is_done trace given =

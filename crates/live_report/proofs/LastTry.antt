@@ -6,6 +6,9 @@ use Rattle.clock_gate.specs.Acts.{Touch}
 use Rattle.seqlock.specs.Tries.{Seqlock}
 use Rattle.seqlock.specs.TriedRun.{FailedTry, Odd, Changed, numbers_after, HasFailed, steps_of, steps_of_all, FailsAlways}
 
+pub same_pair : (a b c d : ℕ) → ◌≡◌ {A = ℕ × ℕ} (a, b) (c, d) → (a ≡ c) × (b ≡ d)
+same_pair a b c d e = (ap (λ (p : ℕ × ℕ). p.0) e, ap (λ (p : ℕ × ℕ). p.1) e)
+
 module _ (lock : Seqlock) where
   -- these steps end with a try that failed by these numbers
   pub record LastTry (touches : List Touch) (first last : ℕ) : Type 0 where

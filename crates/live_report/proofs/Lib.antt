@@ -3,6 +3,7 @@ pub mod PollRun
 pub mod Loads
 pub mod LastTry
 pub mod PageTries
+pub mod Lists
 pub mod HostDone
 pub mod SegmentTries
 pub mod Started
@@ -18,4 +19,5 @@ pub mod PageAfter
 pub mod AnswersShown
 pub mod ClientsShown
 pub mod ReportText
+pub mod CallsMade
 pub mod LiveLawful

@@ -1,5 +1,5 @@
 -- Every run of a trace has a lawful report, and the history of its lines.
-use Rattle.std.proofs.Common.{◌≡◌, ℕ, zero, suc, ◌+◌, ◌-◌, ◌*◌, ◌/◌, ◌<◌, ◌≤◌, Bool, true, false, List, [], ◌∷◌, ◌++◌, length, drop, map, refl, sym, ap, ◌∙◌, subst, arith, inl, inr, Option, Some, None}
+use Rattle.std.proofs.Common.{◌≡◌, ℕ, suc, ◌+◌, ◌/◌, ◌<◌, ◌≤◌, Bool, true, false, List, [], ◌∷◌, ◌++◌, length, drop, map, refl, sym, ap, ◌∙◌, subst, arith, inl, Option, None}
 use Rattle.std.specs.Prelude.{All, nat_lt, Result, Ok, Err, cond, if◌then◌else◌}
 use Rattle.std.specs.List.{range_with_len}
 use Rattle.std.proofs.lemmas.Bool.Decides.{nat_tests}
@@ -7,7 +7,7 @@ use Rattle.std.proofs.lemmas.List.Elements.{All-head}
 use Rattle.std.proofs.lemmas.List.FromFn.{length-range_with_len}
 use Rattle.clock_gate.specs.declared.trace.CallRow.{CallRow}
 use Rattle.clock_gate.specs.declared.trace.Trace.{Trace}
-use Rattle.clock_gate.specs.Trace.{IsLawfulTrace, larger, largest_from}
+use Rattle.clock_gate.specs.Trace.{larger, largest_from}
 use Rattle.generation_word.specs.declared.layout.Layout.{Layout}
 use Rattle.generation_word.specs.declared.layout.Layout.TheVariants.{Two, Three}
 use Rattle.generation_word.specs.Layout.{period_of}
@@ -23,22 +23,23 @@ use Rattle.segment_views.specs.declared.setup.Setup.{Setup}
 use Rattle.segment_views.specs.Views.{Begins, DaemonPart, HostPart, SeatView, first_segment, point_of}
 use Rattle.segment_views.specs.Views as views
 use Rattle.segment_views.specs.Seats.{first_host_part}
+use Rattle.segment_views.specs.Steps.{calls_of as calls_in}
 use Rattle.segment_rule.specs.Answered.{AnswersStand}
 use Rattle.segment_rule.specs.Settled.{AreSettled}
 use Rattle.lawful_report.specs.declared.counts.Counts.{Counts}
 use Rattle.lawful_report.specs.declared.printed.Printed.{Printed}
 use Rattle.lawful_report.specs.declared.printed.Printed.TheVariants as printed
-use Rattle.lawful_report.specs.Course.{Course, Life, course_by, course_start}
-use Rattle.lawful_report.specs.Lawful.{no_counts, Standing, standing_start, due_next, going_on, Follow, text_of_lines, IsLawfulReport, opening_or_poll, Answering}
+use Rattle.lawful_report.specs.Course.{Life, course_by, course_start}
+use Rattle.lawful_report.specs.Lawful.{no_counts, Standing, standing_start, going_on, Follow, text_of_lines, IsLawfulReport, opening_or_poll, Answering}
 use Rattle.lawful_report.specs.Calls.{seen_first, calls_of}
 use Rattle.lawful_report.specs.Composed.{clients_next, ThreadsAreLawful}
 use Rattle.live_report.specs.declared.line.Line.{Line}
 use Rattle.live_report.specs.ClientCalls.{AllClientCalls, answer_lines, client_lines}
-use Rattle.live_report.specs.DaemonCalls.{DaemonPlace, place_first, DaemonCalls}
+use Rattle.live_report.specs.DaemonCalls.{place_first}
 use Rattle.live_report.specs.LiveRun.{setup_of, part_after_rows, IsRunOf}
 use Rattle.live_report.specs.LiveReport.{position_first, lines_printed, lines_counted, report_lines, report_of}
-use Rattle.live_report.specs.LiveLaws.{LiveReportsAreLawful, HistoriesAreOfLines, line_published, lines_published}
-use Rattle.live_report.proofs.HostDone.{HostDone, host_is_done}
+use Rattle.live_report.specs.LiveLaws.{LiveReportsAreLawful, HistoriesAreOfLines, HostsDoAllRows, CallsAreOfLines, line_published, lines_published}
+use Rattle.live_report.proofs.HostDone.{HostDone, all_pages, host_is_done}
 use Rattle.live_report.proofs.Started.{FewPages, few_pages, entry_told, Started, started}
 use Rattle.live_report.proofs.CourseFits.{half_point, LifeFits, PlaceFits}
 use Rattle.live_report.proofs.PollLines.{Within}
@@ -46,6 +47,7 @@ use Rattle.live_report.proofs.DaemonLines.{Leads, all_lead}
 use Rattle.live_report.proofs.PagesDone.{pages_done}
 use Rattle.live_report.proofs.ClientFits.{CourseTold}
 use Rattle.live_report.proofs.ClientsShown.{said_of, clients_shown}
+use Rattle.live_report.proofs.CallsMade.{daemon_calls, clients_hold}
 use Rattle.live_report.proofs.ReportText.{Matches, report_is}
 
 -- ---- before the first call
@@ -235,3 +237,15 @@ live_lawful threads stand trace lines host daemon clients given run few_polls = 
 
 pub live_histories : HistoriesAreOfLines
 live_histories trace lines host daemon clients given run = history_is trace lines host daemon clients given run
+
+pub live_hosts : HostsDoAllRows
+live_hosts trace lines host daemon clients given run =
+    let is = ap (λ (v : SeatView). v.host_part) run.host_rows in
+    let pages = all_pages trace given host.host_part is in
+    record { rows = ap (λ (p : HostPart). p.rows) is ∙ (host_is_done trace given).rows; pages = pages.0; none_in_hand = pages.1 }
+
+pub live_calls : CallsAreOfLines
+live_calls trace lines host daemon clients given run = (
+  ap calls_in run.daemon_seat ∙ daemon_calls trace (place_first (setup_of trace)) run.daemon_lines run.daemon_last run.daemon_calls,
+  clients_hold trace (setup_of trace) (range_with_len 1 trace.clients) run.answers clients run.client_calls,
+)

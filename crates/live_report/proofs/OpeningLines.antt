@@ -1,6 +1,6 @@
 -- The lines of an opening follow in a report.
-use Rattle.std.proofs.Common.{◌≡◌, ℕ, ◌+◌, ◌-◌, ◌*◌, ◌/◌, ◌<◌, ◌≤◌, Bool, true, false, List, [], ◌∷◌, ◌++◌, length, map, length-append, refl, sym, ap, ◌∙◌, subst, arith, inl, inr, Option, Some, None}
-use Rattle.std.specs.Prelude.{◌==◌, ◌&&◌, ◌⊎◌, nat_lt, if◌then◌else◌, slice_index, slice_index_or, is_some}
+use Rattle.std.proofs.Common.{◌≡◌, ℕ, ◌+◌, ◌-◌, ◌<◌, Bool, true, false, List, [], ◌∷◌, ◌++◌, length, length-append, refl, sym, ap, ◌∙◌, subst, arith, inl, inr, Option, Some, None}
+use Rattle.std.specs.Prelude.{◌==◌, ◌&&◌, ◌⊎◌, nat_lt, if◌then◌else◌, slice_index, is_some}
 use Rattle.std.proofs.lemmas.Bool.Decides.{nat_tests}
 use Rattle.clock_gate.specs.declared.trace.Trace.{Trace}
 use Rattle.generation_word.specs.declared.layout.Layout.{Layout}
@@ -14,23 +14,21 @@ use Rattle.segment_layout.specs.Image.{is_old_header}
 use Rattle.segment_run.specs.SegmentRun.{SegmentRun, header_shown, number_shown, number_at, published_at, headed, opened_update, moved_once}
 use Rattle.segment_run.specs.SegmentRun as runs
 use Rattle.segment_rule.proofs.Stores.{even_next}
-use Rattle.segment_views.specs.Views.{DaemonPart, SeatView, first_segment, point_of}
-use Rattle.segment_rule.specs.Opens.{opened_of, moved_by, Reopens}
+use Rattle.segment_views.specs.Views.{DaemonPart}
+use Rattle.segment_rule.specs.Opens.{opened_of, moved_by}
 use Rattle.status_machine.specs.declared.daemon.Daemon.{Daemon}
 use Rattle.status_machine.specs.Incarnation.{Incarnation}
 use Rattle.status_machine.specs.Step.{begun}
 use Rattle.status_machine.proofs.LookBack.{ShowsPast-begun}
 use Rattle.lawful_report.specs.declared.counts.Counts.{Counts}
 use Rattle.lawful_report.specs.declared.entry.Entry.{Entry}
-use Rattle.lawful_report.specs.declared.printed.Printed.{Printed}
 use Rattle.lawful_report.specs.declared.printed.Printed.TheVariants as printed
 use Rattle.lawful_report.specs.Course.{Course, Life, first_entry, last_entry, next_generation, start_found, keeps, is_move, life_from, opened, moved}
-use Rattle.lawful_report.specs.Lawful.{Due, Opening, Moving, Polling, Standing, opening_or_poll, due_next, going_on, FollowsAt, Follows, Follow}
-use Rattle.live_report.specs.LiveRun.{setup_of}
-use Rattle.live_report.specs.LiveReport.{move_printed, position_moved}
-use Rattle.live_report.specs.DaemonCalls.{DaemonPlace, OpensNext, base_opened}
+use Rattle.lawful_report.specs.Lawful.{Due, Opening, Moving, Polling, Standing, due_next, going_on, FollowsAt, Follows, Follow}
+use Rattle.live_report.specs.DaemonCalls.{DaemonPlace, OpensNext}
 use Rattle.live_report.proofs.Started.{Started, entry_told}
-use Rattle.live_report.proofs.CourseFits.{SegmentFits, place, last_known, last_base, found_same, LifeFits, IsFirst, IsNew, PlaceFits, own_is_new, Grows, sound_grows, map_append, at_the_end}
+use Rattle.live_report.proofs.Lists.{map_append}
+use Rattle.live_report.proofs.CourseFits.{SegmentFits, place, last_known, last_base, found_same, LifeFits, IsFirst, IsNew, PlaceFits, own_is_new, sound_grows, at_the_end}
 
 -- ---- what is due
 

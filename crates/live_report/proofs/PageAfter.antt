@@ -1,10 +1,10 @@
 -- The page that a client read after a record is none before the record's own.
-use Rattle.std.proofs.Common.{◌≡◌, ℕ, zero, suc, ◌+◌, ◌-◌, ◌*◌, ◌/◌, ◌%◌, ◌<◌, ◌≤◌, Bool, true, false, List, [], ◌∷◌, ◌++◌, length, refl, sym, ap, ◌∙◌, subst, arith, append_assoc, append-nil, Option, Some, None}
-use Rattle.std.specs.Prelude.{◌==◌, slice_index, slice_index_or, is_some, All}
+use Rattle.std.proofs.Common.{◌≡◌, ℕ, ◌+◌, ◌-◌, ◌*◌, ◌/◌, ◌<◌, ◌≤◌, false, List, [], ◌∷◌, ◌++◌, refl, sym, ap, ◌∙◌, subst, arith, append_assoc, append-nil, Option, Some}
+use Rattle.std.specs.Prelude.{◌==◌, slice_index, All}
 use Rattle.std.proofs.lemmas.List.Elements.{All-head, All-tail}
 use Rattle.clock_gate.specs.declared.trace.Trace.{Trace}
 use Rattle.clock_gate.specs.Acts.{Touch}
-use Rattle.seqlock.specs.TriedRun.{load, loads_from, FailedTry, Odd, Changed, HasFailed, steps_of, steps_of_all, FindsWords}
+use Rattle.seqlock.specs.TriedRun.{FailedTry, Odd, Changed, HasFailed, steps_of, steps_of_all, FindsWords}
 use Rattle.vmclock_page.specs.Words.{count_in_word}
 use Rattle.vmclock_page.specs.Host.{count_of}
 use Rattle.vmclock_page.specs.Counting.{page_number_of}
@@ -12,22 +12,21 @@ use Rattle.vmclock_page.specs.PageRead.{page_lock}
 use Rattle.segment_layout.specs.declared.publication.Publication.{Publication}
 use Rattle.segment_layout.specs.History.{History}
 use Rattle.segment_layout.specs.Record.{RecordFields}
-use Rattle.segment_run.specs.SegmentRun.{no_publication}
 use Rattle.segment_views.specs.declared.setup.Setup.{Setup}
 use Rattle.segment_views.specs.Views.{Begins, Step, SeatView, HostPart, base_of, no_page_try, page_try_after}
 use Rattle.segment_views.specs.Views as views
 use Rattle.segment_views.specs.Steps.{loaded}
 use Rattle.segment_views.specs.Shown.{touches_of, last_shown, Rises, Climbs, StandsPage, PageSoundFrom, known_after, known_through, FollowsFrom, IsSoundCall, IsPageAfter}
-use Rattle.segment_rule.specs.Answered.{HasRead, IsPageRead}
+use Rattle.segment_rule.specs.Answered.{HasRead}
 use Rattle.segment_rule.proofs.ReadRecord.{rest, follows_rest}
-use Rattle.lawful_report.specs.Pages.{last_page, marker_at}
+use Rattle.lawful_report.specs.Pages.{marker_at}
 use Rattle.lawful_report.specs.Course.{Course}
 use Rattle.live_report.specs.LiveRun.{setup_of}
 use Rattle.live_report.proofs.Started.{FewPages}
 use Rattle.live_report.proofs.HostDone.{HostDone}
 use Rattle.live_report.proofs.PageTries.{page_found, page_sound_back}
 use Rattle.live_report.proofs.PageNumbers.{found_told, number_told}
-use Rattle.live_report.proofs.ClientFits.{CourseTold, ClientWithin}
+use Rattle.live_report.proofs.ClientFits.{ClientWithin}
 
 -- ---- what is known through loads of other words
 

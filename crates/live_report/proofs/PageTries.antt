@@ -1,22 +1,20 @@
 -- What the tries of a read of the page show, by the loads of a call.
-use Rattle.std.proofs.Common.{◌≡◌, ◌≢◌, ℕ, suc, ◌+◌, ◌-◌, ◌*◌, ◌/◌, ◌%◌, ◌^◌, ◌<◌, ◌≤◌, Bool, true, false, List, [], ◌∷◌, ◌++◌, length, refl, sym, ap, ◌∙◌, subst, arith, append_assoc, inl, inr, Option, Some, None}
-use Rattle.std.specs.Prelude.{◌==◌, ◌⊎◌, slice_index, slice_index_or, is_some}
+use Rattle.std.proofs.Common.{◌≡◌, ◌≢◌, ℕ, ◌/◌, ◌%◌, ◌^◌, ◌<◌, ◌≤◌, true, false, List, [], ◌∷◌, ◌++◌, length, refl, sym, ap, ◌∙◌, subst, arith, append_assoc, inl, inr, Option, Some, None}
+use Rattle.std.specs.Prelude.{◌==◌, ◌⊎◌, slice_index, slice_index_or}
 use Rattle.std.proofs.lemmas.Bool.Decides.{nat_tests}
 use Rattle.clock_gate.specs.Acts.{Touch}
 use Rattle.seqlock.specs.TriedRun.{load, loads_from, whole_try, FailedTry, Odd, Changed, numbers_after, HasFailed, steps_of, steps_of_all, FindsWords, FailsAlways}
 use Rattle.vmclock_page.specs.Words.{count_in_word, word_with_count}
 use Rattle.vmclock_page.specs.Host.{constants_of, count_of, raised}
 use Rattle.vmclock_page.specs.PageRead.{page_lock}
-use Rattle.vmclock_page.specs.Counting.{page_number_of}
-use Rattle.segment_layout.specs.declared.publication.Publication.{Publication}
 use Rattle.segment_views.specs.declared.setup.Setup.{Setup}
-use Rattle.segment_views.specs.Views.{Step, SeatView, PageTry, no_page_try, page_after_step, page_try_after}
+use Rattle.segment_views.specs.Views.{Step, PageTry, page_after_step, page_try_after}
 use Rattle.segment_views.specs.Rule.{count_word_at}
 use Rattle.segment_views.specs.Steps.{loaded, IsWholePageRead}
-use Rattle.segment_views.specs.Shown.{touches_of, is_load_of, When, Climbs, StandsPage, PageSoundFrom, IsSoundCall}
+use Rattle.segment_views.specs.Shown.{touches_of, Climbs, StandsPage, PageSoundFrom}
 use Rattle.segment_rule.proofs.ReadRecord.{head}
-use Rattle.live_report.proofs.Loads.{LoadAt, load_at}
-use Rattle.live_report.proofs.LastTry.{LastTry, last_try}
+use Rattle.live_report.proofs.Loads.{load_at}
+use Rattle.live_report.proofs.LastTry.{same_pair, last_try}
 
 constants_small : (p : Option (List ℕ)) → constants_of p < 2 ^ 32
 constants_small None = omega arith
@@ -38,9 +36,6 @@ pub record PageFails (c : Setup) (from to first last : ℕ) : Type 0 where
   pub first_is : first ≡ raised one (count_of c.page)
   pub last_is : last ≡ raised two (count_of c.page)
   pub fails : ((first % 2 ≡ 1) × (two ≡ one)) ⊎ ((first % 2 ≡ 0) × (last ≢ first))
-
-same_pair : (a b c d : ℕ) → ◌≡◌ {A = ℕ × ℕ} (a, b) (c, d) → (a ≡ c) × (b ≡ d)
-same_pair a b c d e = (ap (λ (p : ℕ × ℕ). p.0) e, ap (λ (p : ℕ × ℕ). p.1) e)
 
 module _ (c : Setup) (from to : ℕ) (steps : List Step) (climbs : Climbs 11 (StandsPage c) from steps to) where
   fails_by : (front back : List Touch) (try : FailedTry) (first last : ℕ) → touches_of steps ≡ front ++ (steps_of page_lock try ++ back) → HasFailed page_lock try → numbers_after page_lock.number_in (0, 0) (try ∷ []) ≡ (first, last)

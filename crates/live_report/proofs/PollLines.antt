@@ -1,58 +1,44 @@
 -- The lines of a poll follow in a report.
-use Rattle.std.proofs.Common.{◌≡◌, ℕ, zero, suc, ◌+◌, ◌-◌, ◌*◌, ◌/◌, ◌<◌, ◌≤◌, Bool, true, false, List, [], ◌∷◌, ◌++◌, length, map, length-append, append-nil, append_assoc, refl, sym, ap, ◌∙◌, subst, arith, inl, inr, Option, Some, None}
-use Rattle.std.specs.Prelude.{◌==◌, ◌⊎◌, nat_lt, if◌then◌else◌, slice_get, slice_index, slice_index_or, is_some, All, IfSome}
-use Rattle.std.proofs.lemmas.Bool.{cases_lt, cases_Bool}
-use Rattle.std.proofs.lemmas.Bool.Decides.{nat_tests}
+use Rattle.std.proofs.Common.{◌≡◌, ℕ, ◌+◌, ◌-◌, ◌*◌, ◌/◌, ◌<◌, ◌≤◌, Bool, true, false, List, [], ◌∷◌, ◌++◌, length, map, append-nil, refl, sym, ap, ◌∙◌, subst, arith, inl, inr, Option, Some, None}
+use Rattle.std.specs.Prelude.{◌==◌, ◌⊎◌, if◌then◌else◌, slice_get, slice_index, slice_index_or, is_some}
+use Rattle.std.proofs.lemmas.Bool.{cases_lt}
 use Rattle.std.proofs.lemmas.Option.{slice_get_past}
-use Rattle.clock_gate.specs.declared.clock_row.Reading.{Reading}
 use Rattle.clock_gate.specs.declared.trace.PollRow.{PollRow}
 use Rattle.clock_gate.specs.declared.trace.Trace.{Trace}
 use Rattle.clock_gate.specs.Acts.{Touch}
 use Rattle.generation_word.specs.declared.layout.Layout.{Layout}
-use Rattle.generation_word.specs.Layout.{period_of}
-use Rattle.generation_word.specs.Numbering.{generation_at, even_after}
 use Rattle.seqlock.specs.TriedRun.{load}
 use Rattle.vmclock_page.specs.Host.{count_of}
 use Rattle.vmclock_page.specs.Counting.{page_number_of}
 use Rattle.segment_layout.specs.declared.publication.Publication.{Publication}
 use Rattle.segment_layout.specs.Image.{is_old_header}
 use Rattle.segment_layout.specs.Words.{flag_of}
-use Rattle.segment_run.specs.SegmentRun.{SegmentRun, header_shown, number_shown, number_at, published_at, no_publication}
+use Rattle.segment_run.specs.SegmentRun.{SegmentRun, header_shown, published_at, no_publication}
 use Rattle.segment_views.specs.declared.setup.Setup.{Setup}
 use Rattle.segment_views.specs.Views.{Begins, HostPart, SeatView, point_of, no_page_try}
-use Rattle.segment_views.specs.Shown.{touches_of, Climbs, StandsPage, StandsRow, PageSoundFrom, IsSoundCall}
-use Rattle.segment_rule.specs.Polls.{order_for, history_after, headed_after, LeavesSegment, Polls}
-use Rattle.segment_rule.proofs.Stores.{even_next}
+use Rattle.segment_views.specs.Shown.{touches_of, Climbs, StandsPage, PageSoundFrom}
+use Rattle.segment_rule.specs.Polls.{order_for, history_after, headed_after, LeavesSegment}
 use Rattle.status_machine.specs.declared.daemon.Daemon.{Daemon}
-use Rattle.status_machine.specs.declared.poll.Poll.{Poll}
-use Rattle.status_machine.specs.Incarnation.{record_at, base_at}
-use Rattle.status_machine.specs.Base.{base_number}
 use Rattle.status_machine.specs.Poll.{heard_of}
-use Rattle.status_machine.specs.Step.{ShowsPast, daemon_step, record_of}
-use Rattle.status_machine.proofs.LookBack.{ShowsPast-step, record_of-shown}
+use Rattle.status_machine.specs.Step.{ShowsPast}
 use Rattle.writer_reopen.specs.declared.order.Order.{Order}
 use Rattle.writer_reopen.specs.declared.polled.Polled.{Polled}
 use Rattle.writer_reopen.specs.declared.polled.Polled.TheVariants as polls
 use Rattle.writer_reopen.specs.declared.stage.Sight.{Sight}
-use Rattle.writer_reopen.specs.declared.stage.Taken.{Taken}
-use Rattle.writer_reopen.specs.Poll.{reading_at, marker_seen, sequence_seen, poll_for, taken_for, polled_by}
+use Rattle.writer_reopen.specs.Poll.{marker_seen, sequence_seen}
 use Rattle.lawful_report.specs.declared.counts.Counts.{Counts}
-use Rattle.lawful_report.specs.declared.entry.Entry.{Entry}
-use Rattle.lawful_report.specs.declared.printed.Printed.{Printed}
 use Rattle.lawful_report.specs.declared.printed.Printed.TheVariants as printed
-use Rattle.lawful_report.specs.Pages.{marker_at, marker_from, last_page, page_seen}
-use Rattle.lawful_report.specs.Course.{Course, Life, last_entry, next_generation, poll_at, entry_of, point_stopped, skipped, stopped, published, ended, IsPublished}
-use Rattle.lawful_report.specs.Lawful.{Due, Polling, Stopping, Standing, due_next, going_on, one_publication, after_publication, DoesNotStop, FollowsAt, Follows, Follow}
+use Rattle.lawful_report.specs.Pages.{marker_at, last_page, page_seen}
+use Rattle.lawful_report.specs.Course.{Course, Life, point_stopped, skipped, stopped}
+use Rattle.lawful_report.specs.Lawful.{Due, Polling, due_next, going_on, FollowsAt, Follow}
 use Rattle.live_report.specs.LiveRun.{setup_of}
-use Rattle.live_report.specs.LiveReport.{stop_of, stop_by, poll_printed, poll_counted}
-use Rattle.live_report.specs.DaemonCalls.{DaemonPlace, PollsNext, goes_on, base_left, unless_stopped}
-use Rattle.live_report.proofs.Loads.{load_at}
-use Rattle.live_report.proofs.PageTries.{page_fails, page_found}
-use Rattle.live_report.proofs.PollRun.{Saw, Asked, TakenAt, Missed, Told, poll_did}
+use Rattle.live_report.specs.DaemonCalls.{DaemonPlace, PollsNext, goes_on, base_left}
+use Rattle.live_report.proofs.PageTries.{page_fails}
+use Rattle.live_report.proofs.PollRun.{Missed}
 use Rattle.live_report.proofs.HostDone.{HostDone}
 use Rattle.live_report.proofs.Started.{FewPages, entry_told}
-use Rattle.live_report.proofs.PageNumbers.{busy_told, found_told}
-use Rattle.live_report.proofs.CourseFits.{half_point, SegmentFits, place, LifeFits, IsFirst, IsNew, PlaceFits, Grows, sound_grows, map_append, at_the_end}
+use Rattle.live_report.proofs.PageNumbers.{busy_told}
+use Rattle.live_report.proofs.CourseFits.{SegmentFits, place, LifeFits, IsFirst, IsNew, PlaceFits, Grows, sound_grows}
 use Rattle.live_report.proofs.OpeningLines.{due_polling, own_shown}
 
 -- what was seen lies within what the host has done

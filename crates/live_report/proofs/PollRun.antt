@@ -3,7 +3,6 @@
 use Rattle.std.proofs.Common.{◌≡◌, ℕ, zero, suc, Bool, true, false, List, [], ◌∷◌, ◌++◌, Option, Some, None, refl, ap, sym, ◌∙◌, subst, append_assoc, append-nil, inl, inr}
 use Rattle.std.specs.Prelude.{◌⊎◌, slice_index, if◌then◌else◌}
 use Rattle.clock_gate.specs.declared.act.Act.{Act}
-use Rattle.clock_gate.specs.declared.act.Act.TheVariants.{Load}
 use Rattle.clock_gate.specs.declared.clock_row.ClockRow.{ClockRow}
 use Rattle.clock_gate.specs.declared.clock_row.Reading.{Reading}
 use Rattle.clock_gate.specs.Acts.{Touch, act_of_touch, Wanted, replayed}
@@ -23,7 +22,7 @@ use Rattle.writer_reopen.specs.declared.stage.Sight.{Sight}
 use Rattle.writer_reopen.specs.declared.stage.Stage.{Stage}
 use Rattle.writer_reopen.specs.declared.stage.Stage.TheVariants.{Asking, Looking, Taking, Storing}
 use Rattle.writer_reopen.specs.declared.stage.Taken.{Taken}
-use Rattle.writer_reopen.specs.Poll.{reading_at, taken_for, polled_by, storing_of}
+use Rattle.writer_reopen.specs.Poll.{reading_at, taken_for, polled_by}
 use Rattle.writer_reopen.specs.PollMachine.{Polling, new_polling, looking_by, stage_progress, polling_act, polling_given, polling_end, stage_seen, stage_given, IsUnseen}
 use Rattle.writer_reopen.specs.Progress.{act_of, end_of, in_order}
 

@@ -1,10 +1,7 @@
 -- The line of a publication follows in a report.
-use Rattle.std.proofs.Common.{◌≡◌, ℕ, zero, suc, ◌+◌, ◌-◌, ◌*◌, ◌/◌, ◌<◌, ◌≤◌, Bool, true, false, List, [], ◌∷◌, ◌++◌, length, map, length-append, append-nil, append_assoc, refl, sym, ap, ◌∙◌, subst, arith, inl, inr, Option, Some, None}
-use Rattle.std.specs.Prelude.{◌==◌, ◌⊎◌, nat_lt, if◌then◌else◌, slice_get, slice_index, slice_index_or, is_some, All, IfSome}
-use Rattle.std.proofs.lemmas.Bool.{cases_lt, cases_Bool}
-use Rattle.std.proofs.lemmas.Bool.Decides.{nat_tests}
+use Rattle.std.proofs.Common.{◌≡◌, ℕ, ◌+◌, ◌-◌, ◌<◌, ◌≤◌, Bool, true, false, List, [], ◌∷◌, ◌++◌, length, map, length-append, refl, sym, ap, ◌∙◌, subst, arith, Option, Some, None}
+use Rattle.std.specs.Prelude.{if◌then◌else◌, slice_index, slice_index_or}
 use Rattle.clock_gate.specs.declared.clock_row.Reading.{Reading}
-use Rattle.clock_gate.specs.declared.trace.PollRow.{PollRow}
 use Rattle.clock_gate.specs.declared.trace.Trace.{Trace}
 use Rattle.clock_gate.specs.Acts.{Touch}
 use Rattle.generation_word.specs.declared.layout.Layout.{Layout}
@@ -16,9 +13,9 @@ use Rattle.vmclock_page.specs.Words.{count_in_word}
 use Rattle.vmclock_page.specs.Counting.{page_number_of}
 use Rattle.segment_layout.specs.declared.publication.Publication.{Publication}
 use Rattle.segment_layout.specs.Words.{flag_of}
-use Rattle.segment_run.specs.SegmentRun.{SegmentRun, number_shown, number_at, published_at, no_publication}
+use Rattle.segment_run.specs.SegmentRun.{SegmentRun, number_shown, published_at, no_publication}
 use Rattle.segment_views.specs.declared.setup.Setup.{Setup}
-use Rattle.segment_views.specs.Views.{HostPart, SeatView, point_of, no_page_try}
+use Rattle.segment_views.specs.Views.{HostPart, no_page_try}
 use Rattle.segment_views.specs.Shown.{touches_of, StandsRow}
 use Rattle.segment_rule.specs.Polls.{order_for, history_after, LeavesSegment}
 use Rattle.segment_rule.proofs.Stores.{even_next}
@@ -27,31 +24,29 @@ use Rattle.status_machine.specs.declared.poll.Poll.{Poll}
 use Rattle.status_machine.specs.Incarnation.{record_at, base_at}
 use Rattle.status_machine.specs.Base.{base_number}
 use Rattle.status_machine.specs.Poll.{heard_of}
-use Rattle.status_machine.specs.Step.{ShowsPast, daemon_step, record_of}
+use Rattle.status_machine.specs.Step.{ShowsPast, daemon_step}
 use Rattle.status_machine.proofs.LookBack.{ShowsPast-step, record_of-shown}
 use Rattle.writer_reopen.specs.declared.order.Order.{Order}
 use Rattle.writer_reopen.specs.declared.polled.Polled.{Polled}
 use Rattle.writer_reopen.specs.declared.polled.Polled.TheVariants as polls
 use Rattle.writer_reopen.specs.declared.stage.Sight.{Sight}
 use Rattle.writer_reopen.specs.declared.stage.Taken.{Taken}
-use Rattle.writer_reopen.specs.Poll.{marker_seen, sequence_seen, poll_for, taken_for, polled_by}
+use Rattle.writer_reopen.specs.Poll.{sequence_seen, poll_for, taken_for}
 use Rattle.lawful_report.specs.declared.counts.Counts.{Counts}
-use Rattle.lawful_report.specs.declared.entry.Entry.{Entry}
-use Rattle.lawful_report.specs.declared.printed.Printed.{Printed}
 use Rattle.lawful_report.specs.declared.printed.Printed.TheVariants as printed
-use Rattle.lawful_report.specs.Pages.{marker_at, marker_from, last_page}
-use Rattle.lawful_report.specs.Course.{Course, Life, next_generation, poll_at, entry_of, published, ended, IsPublished}
-use Rattle.lawful_report.specs.Lawful.{Due, Polling, Stopping, Standing, going_on, one_publication, after_publication, has_stop, DoesNotStop, FollowsAt, Follows, Follow}
+use Rattle.lawful_report.specs.Pages.{marker_at, marker_from}
+use Rattle.lawful_report.specs.Course.{Course, poll_at, entry_of, published, ended, IsPublished}
+use Rattle.lawful_report.specs.Lawful.{Due, Stopping, Standing, going_on, one_publication, after_publication, has_stop, DoesNotStop, FollowsAt, Follow}
 use Rattle.live_report.specs.LiveRun.{setup_of}
-use Rattle.live_report.specs.LiveReport.{stop_of, stop_by, stop_printed, poll_printed, poll_counted}
 use Rattle.live_report.specs.DaemonCalls.{DaemonPlace, PollsNext, goes_on, base_left, unless_stopped}
 use Rattle.live_report.proofs.Loads.{load_at}
 use Rattle.live_report.proofs.PageTries.{page_found}
-use Rattle.live_report.proofs.PollRun.{Saw, TakenAt, Missed, Told, poll_did}
+use Rattle.live_report.proofs.PollRun.{Saw, TakenAt}
 use Rattle.live_report.proofs.HostDone.{HostDone}
 use Rattle.live_report.proofs.Started.{FewPages, entry_told}
 use Rattle.live_report.proofs.PageNumbers.{found_told}
-use Rattle.live_report.proofs.CourseFits.{SegmentFits, place, LifeFits, PlaceFits, map_append, at_the_end}
+use Rattle.live_report.proofs.Lists.{map_append}
+use Rattle.live_report.proofs.CourseFits.{SegmentFits, place, LifeFits, PlaceFits, at_the_end}
 use Rattle.live_report.proofs.PollLines.{Within, TookPage, PollFacts, no_page}
 
 module _ (trace : Trace) (few : FewPages trace) (host : HostPart) (done : HostDone trace host) (some_tries : 0 < trace.tries) (p q : DaemonPlace) (poll : ℕ) (polled : Polled) (course : Course) (counts : Counts) (fits : PlaceFits trace p course) (x : PollsNext trace p poll polled q) (within : Within trace host q.view) (facts : PollFacts trace p q poll x.row x.daemon course) where

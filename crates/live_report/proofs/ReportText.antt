@@ -6,8 +6,7 @@ use Rattle.lawful_report.specs.declared.counts.Counts.{Counts}
 use Rattle.lawful_report.specs.declared.printed.Printed.{Printed}
 use Rattle.lawful_report.specs.declared.printed.Printed.TheVariants as printed
 use Rattle.lawful_report.specs.Lawful.{no_counts, counts_list}
-use Rattle.lawful_report.specs.Showed.{Said}
-use Rattle.lawful_report.specs.Composed.{answered_lines, lines_of_clients, counts_said, counts_all, whole_report}
+use Rattle.lawful_report.specs.Composed.{answered_lines, lines_of_clients, counts_said, counts_all}
 use Rattle.live_report.specs.declared.line.Line.{Line}
 use Rattle.live_report.specs.declared.line.Line.TheVariants as lines
 use Rattle.live_report.specs.ClientCalls.{answer_lines, client_lines}

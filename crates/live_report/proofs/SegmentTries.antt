@@ -1,5 +1,5 @@
 -- What the tries of a read of the segment show, by the loads of a call.
-use Rattle.std.proofs.Common.{◌≡◌, ◌≢◌, ℕ, zero, suc, ◌+◌, ◌-◌, ◌*◌, ◌/◌, ◌%◌, ◌<◌, ◌≤◌, Bool, true, false, List, [], ◌∷◌, ◌++◌, length, refl, sym, ap, ◌∙◌, subst, arith, append_assoc, inl, inr}
+use Rattle.std.proofs.Common.{◌≡◌, ◌≢◌, ℕ, zero, suc, ◌+◌, ◌/◌, ◌%◌, ◌<◌, ◌≤◌, true, false, List, [], ◌∷◌, ◌++◌, refl, sym, ap, ◌∙◌, subst, arith, inl, inr}
 use Rattle.std.specs.Prelude.{◌==◌, ◌⊎◌}
 use Rattle.std.proofs.lemmas.Bool.Decides.{nat_tests}
 use Rattle.clock_gate.specs.Acts.{Touch}
@@ -9,15 +9,15 @@ use Rattle.generation_word.specs.Header.{generation_in}
 use Rattle.generation_word.proofs.Laws.{generation_at-even, generation_at_positive, one_position}
 use Rattle.seqlock.specs.TriedRun.{load, loads_from, FailedTry, Odd, Changed, numbers_after, HasFailed, steps_of, steps_of_all, FindsNothing, FailsAlways}
 use Rattle.shm_reader.specs.SegmentTries.{segment_lock}
-use Rattle.segment_run.proofs.SegmentHeader.{header_tells, period_positive}
+use Rattle.segment_run.proofs.SegmentHeader.{header_tells}
 use Rattle.segment_views.specs.declared.setup.Setup.{Setup}
 use Rattle.segment_views.specs.Views.{Step, SegmentTry, no_segment_try, number_of_point, after_step, segment_try_after}
 use Rattle.segment_views.specs.Steps.{loaded, StandsPoint, ShowsPoint, IsSteady}
 use Rattle.segment_views.specs.Shown.{touches_of, Climbs, SteadyFrom}
 use Rattle.segment_rule.proofs.Times.{numbered}
 use Rattle.segment_rule.proofs.ReadRecord.{try_loads}
-use Rattle.live_report.proofs.Loads.{LoadAt, load_at}
-use Rattle.live_report.proofs.LastTry.{LastTry, last_try}
+use Rattle.live_report.proofs.Loads.{load_at}
+use Rattle.live_report.proofs.LastTry.{same_pair, last_try}
 
 -- a word of some generation tells the number of its point
 pub number_told : (c : Setup) (word point : ℕ) → StandsPoint c word point → (generation_in word == 0) ≡ false → generation_in word ≡ number_of_point c.layout point
@@ -28,9 +28,6 @@ number_told c word point (inr header) some = header_tells c.layout word (number_
 steady_back : (t : SegmentTry) (xs ys : List Step) → SteadyFrom t (xs ++ ys) → SteadyFrom (segment_try_after t xs) ys
 steady_back t [] ys h = h
 steady_back t (x ∷ xs) ys h = steady_back (after_step t x) xs ys h.1
-
-same_pair : (a b c d : ℕ) → ◌≡◌ {A = ℕ × ℕ} (a, b) (c, d) → (a ≡ c) × (b ≡ d)
-same_pair a b c d e = (ap (λ (p : ℕ × ℕ). p.0) e, ap (λ (p : ℕ × ℕ). p.1) e)
 
 -- the last try failed by an odd number, at this point
 pub record FailsOdd (c : Setup) (from to first last : ℕ) : Type 0 where

@@ -1,13 +1,11 @@
 -- How a run begins: the segment that the table was given, and the course of its report.
-use Rattle.std.proofs.Common.{◌≡◌, ℕ, zero, suc, ◌+◌, ◌-◌, ◌*◌, ◌/◌, ◌%◌, ◌^◌, ◌<◌, ◌≤◌, Bool, true, false, List, [], ◌∷◌, ◌++◌, length, length-append, map, refl, sym, ap, ◌∙◌, subst, arith, Option, Some, None, Ok}
-use Rattle.std.specs.Prelude.{slice_index, slice_index_or, IfSome, IsOk, Result, Err}
+use Rattle.std.proofs.Common.{◌≡◌, ℕ, ◌+◌, ◌-◌, ◌*◌, ◌/◌, ◌%◌, ◌^◌, ◌<◌, ◌≤◌, false, List, [], ◌∷◌, ◌++◌, length, length-append, map, refl, sym, ap, ◌∙◌, subst, arith, Option, Some, None, Ok}
+use Rattle.std.specs.Prelude.{slice_index_or, IfSome, IsOk, Result, Err}
 use Rattle.std.proofs.lemmas.List.{get_or_append_left}
 use Rattle.clock_gate.specs.declared.trace.HostRow.{HostRow}
 use Rattle.clock_gate.specs.declared.trace.HostRow.TheVariants.{Clock, Page, Disrupt}
 use Rattle.clock_gate.specs.declared.trace.Trace.{Trace}
-use Rattle.generation_word.specs.declared.layout.Layout.{Layout}
 use Rattle.vmclock_page.specs.Host.{count_of}
-use Rattle.vmclock_page.specs.HostRows.{StartsEven}
 use Rattle.vmclock_page.specs.Counting.{page_number_of}
 use Rattle.vmclock_page.specs.Words.{AreWords}
 use Rattle.vmclock_page.specs.Rows.{IsStartPage}
@@ -16,11 +14,11 @@ use Rattle.segment_layout.specs.declared.image_fault.ImageFault.{ImageFault}
 use Rattle.segment_layout.specs.declared.publication.Publication.{Publication}
 use Rattle.segment_layout.specs.declared.start.Start.{Start}
 use Rattle.segment_layout.specs.declared.start.Start.TheVariants.{Fresh, Kept, Torn}
-use Rattle.segment_layout.specs.Image.{image_of, start_of}
+use Rattle.segment_layout.specs.Image.{image_of}
 use Rattle.segment_layout.specs.Words.{fields_of_words}
 use Rattle.segment_layout.specs.Record.{RecordFields}
 use Rattle.segment_layout.proofs.Admitted.{image_of-start}
-use Rattle.segment_run.specs.SegmentRun.{SegmentRun, image_publication, published_at, segment_by, segment_start}
+use Rattle.segment_run.specs.SegmentRun.{SegmentRun, image_publication, published_at, segment_by}
 use Rattle.segment_run.specs.ShowsSegment.{IsSegment}
 use Rattle.segment_run.proofs.SegmentStart.{Holds, admitted_holds, segment_start_shows}
 use Rattle.abstract_run.specs.Given.{IsGiven}

@@ -1,5 +1,5 @@
 -- What the workers of a run did, whatever order their steps took: each party's calls in their order, and what was settled at the end.
-use Rattle.std.specs.Prelude.{◌≡◌, ℕ, List, [], ◌∷◌, ◌++◌, length, drop, All}
+use Rattle.std.specs.Prelude.{◌≡◌, List, [], ◌∷◌, ◌++◌, length, drop, All}
 use Rattle.std.specs.List.{range_with_len}
 use Rattle.clock_gate.specs.declared.trace.HostRow.{HostRow}
 use Rattle.clock_gate.specs.declared.trace.Trace.{Trace}

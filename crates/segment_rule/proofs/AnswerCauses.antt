@@ -1,6 +1,6 @@
 -- Each answer by its cause.
-use Rattle.std.proofs.Common.{◌≡◌, ℕ, ◌+◌, ◌<◌, Bool, true, false, List, [], ◌∷◌, ◌++◌, Option, Some, None, Result, Ok, Err, refl, sym, ap, ◌∙◌, subst, arith, inl, inr}
-use Rattle.std.specs.Prelude.{◌⊎◌, ◌↔◌, is_some, slice_index, int_lt, pos, ◌<ℤ◌, if◌then◌else◌, ℤ}
+use Rattle.std.proofs.Common.{◌≡◌, ℕ, ◌+◌, ◌<◌, Bool, true, false, List, [], Option, Some, None, Result, Ok, Err, refl, sym, ap, subst, arith, inl, inr}
+use Rattle.std.specs.Prelude.{◌↔◌, is_some, slice_index, int_lt, pos, ◌<ℤ◌, if◌then◌else◌, ℤ}
 use Rattle.std.proofs.lemmas.Int.{ints}
 use Rattle.clock_gate.specs.declared.clock_row.ClockRow.{ClockRow}
 use Rattle.clock_gate.specs.Acts.{Touch}
@@ -17,15 +17,13 @@ use Rattle.interval_now.specs.declared.answers.Answer.{Answer}
 use Rattle.interval_now.specs.declared.answers.Answer.TheVariants as answers
 use Rattle.interval_now.specs.declared.answers.Causality.{Causality}
 use Rattle.interval_now.specs.declared.answers.Interval.{Interval}
-use Rattle.interval_now.specs.declared.answers.Timed.{Timed}
 use Rattle.interval_now.specs.Call.{timed, answer_of}
 use Rattle.interval_now.proofs.Statuses.{intervals_have_status}
 use Rattle.interval_now.specs.Interval.{interval_of}
-use Rattle.interval_now.specs.CallRun.{answer_without_record, answer_by_page, ReadsThenClock, EndsAtSegment, CallCameTo, CallDid, ReadsAll, AnswersTime}
+use Rattle.interval_now.specs.CallRun.{answer_without_record, answer_by_page, ReadsThenClock, CallCameTo, CallDid, ReadsAll, AnswersTime}
 use Rattle.segment_views.specs.Views.{SeatView}
 use Rattle.segment_views.specs.Shown.{touches_of, IsSoundCall}
-use Rattle.segment_rule.specs.Calls.{Nows}
-use Rattle.segment_rule.specs.Answered.{HasRead, IsPageRead, IsAnsweredBy, AnswersStand, ReadsAnswerTime}
+use Rattle.segment_rule.specs.Answered.{IsPageRead, IsAnsweredBy, AnswersStand, ReadsAnswerTime}
 use Rattle.segment_rule.proofs.ReadRecord.{has_read}
 
 -- a reading that gives no interval lies before the record

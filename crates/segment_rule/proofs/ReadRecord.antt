@@ -1,9 +1,8 @@
 -- A record that a call read: its try among the steps, what its loads showed, and the history's entry at the front.
-use Rattle.std.proofs.Common.{◌≡◌, ◌≢◌, ℕ, zero, suc, ◌+◌, ◌-◌, ◌*◌, ◌/◌, ◌%◌, ◌<◌, ◌≤◌, Bool, true, false, List, [], ◌∷◌, ◌++◌, length, take, drop, refl, sym, ap, ◌∙◌, subst, arith, inl, inr, append_assoc}
-use Rattle.std.specs.Prelude.{◌==◌, ◌⊎◌, slice_index, slice_index_or}
+use Rattle.std.proofs.Common.{◌≡◌, ℕ, zero, suc, ◌+◌, ◌-◌, ◌/◌, ◌%◌, ◌<◌, ◌≤◌, Bool, true, false, List, [], ◌∷◌, ◌++◌, length, take, drop, refl, sym, ap, ◌∙◌, subst, arith, inl, inr, append_assoc}
+use Rattle.std.specs.Prelude.{◌==◌, slice_index}
 use Rattle.std.proofs.lemmas.Bool.Decides.{nat_tests}
 use Rattle.clock_gate.specs.Acts.{Touch}
-use Rattle.generation_word.specs.declared.layout.Layout.{Layout}
 use Rattle.generation_word.specs.Layout.{period_of}
 use Rattle.generation_word.specs.Numbering.{generation_at}
 use Rattle.generation_word.specs.Header.{generation_in}
@@ -12,7 +11,7 @@ use Rattle.seqlock.specs.TriedRun.{load, loads_from, steps_of_all, whole_try}
 use Rattle.segment_layout.specs.declared.publication.Publication.{Publication}
 use Rattle.segment_layout.specs.Image.{IsHeaderFor}
 use Rattle.segment_layout.specs.Record.{RecordFields}
-use Rattle.segment_layout.specs.Words.{record_words, data_words, fields_of_words}
+use Rattle.segment_layout.specs.Words.{record_words, data_words}
 use Rattle.segment_layout.proofs.Back.{fields_of_words-data_words}
 use Rattle.segment_run.proofs.SegmentHeader.{header_tells}
 use Rattle.shm_reader.specs.SegmentTries.{segment_lock, record_in}
@@ -23,7 +22,7 @@ use Rattle.segment_views.specs.Rule.{AreWordsOf}
 use Rattle.segment_views.specs.Steps.{loaded, StandsPoint, ShowsPoint, IsBounded, IsWholeRead}
 use Rattle.segment_views.specs.Shown.{touches_of, is_load_of, When, next_shown, last_shown, Rises, SoundFrom, StandsRow, known_after, known_through, IsRowAfter, FollowsFrom, IsSoundCall}
 use Rattle.segment_rule.specs.Answered.{HasRead, IsEntry}
-use Rattle.segment_rule.proofs.Times.{Parts, parts, same_head, sound_back, numbered, with_word}
+use Rattle.segment_rule.proofs.Times.{parts, same_head, sound_back, numbered, with_word}
 
 -- ---- the try among the steps
 

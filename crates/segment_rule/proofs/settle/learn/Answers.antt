@@ -1,5 +1,4 @@
-use Rattle.std.proofs.Common.{rules, ◌≡◌, ℕ, true, List, refl, sym, ap, ◌∙◌, subst}
-use Rattle.atomic_table.specs.Table.{Me}
+use Rattle.std.proofs.Common.{rules, ◌≡◌, ℕ, refl, ap, ◌∙◌, subst}
 use Rattle.segment_views.specs.Steps.{MayLoad, same_state}
 use Rattle.segment_views.specs.Views.{SeatView}
 use Rattle.segment_views.specs.Seats.{taught_by, spent, told_view, TellsTaught}
