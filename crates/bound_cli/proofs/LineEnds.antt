@@ -56,23 +56,11 @@ front_is front =
     let place : length (front ++ 10 ∷ []) - 1 ≡ length front = omega (arith, length-append front (10 ∷ [])) in
     ap (λ (n : ℕ). take n (front ++ 10 ∷ [])) place ∙ take-append_seam front (10 ∷ [])
 
-last_is : (front : List ℕ) → slice_index (front ++ 10 ∷ []) (length (front ++ 10 ∷ []) - 1) ≡ 10
-last_is front =
-    let place : length (front ++ 10 ∷ []) - 1 ≡ length front = omega (arith, length-append front (10 ∷ [])) in
-    ap (λ (n : ℕ). slice_index (front ++ 10 ∷ []) n) place ∙ get_or-append_seam front 10 [] 0
-
-some_are : (front : List ℕ) → 0 < length (front ++ 10 ∷ [])
-some_are front = omega (arith, length-append front (10 ∷ []))
-
--- where the last character of all these bytes is taken off, what came before the line and the line without its line feed are left
-pub without_feed : (before line all left : List ℕ) (size : ℕ) → Ends line → all ≡ before ++ line → size ≡ length all
-    → (0 < size → slice_index all (size - 1) < 128 → left ≡ take (size - 1) all) → left ≡ before ++ unended line
-without_feed before line all left size (front, is) whole long takes =
+-- where the last of all these bytes is taken off, what came before the line and the line without its line feed are left
+pub without_feed : (before line all left : List ℕ) → Ends line → all ≡ before ++ line → left ≡ take (length all - 1) all → left ≡ before ++ unended line
+without_feed before line all left (front, is) whole taken =
     let ends : all ≡ (before ++ front) ++ 10 ∷ [] =
     whole ∙ (ap (λ (text : List ℕ). before ++ text) is ∙ sym (append_assoc before front (10 ∷ []))) in
     let rest : unended line ≡ front = rw is (front_is front) in
-    let size_is : size ≡ length ((before ++ front) ++ 10 ∷ []) = long ∙ ap length ends in
-    let some : 0 < size = rw size_is (some_are (before ++ front)) in
-    let last : slice_index all (size - 1) < 128 = rw (ends, size_is, last_is (before ++ front)) (omega arith) in
-    let left_is : take (size - 1) all ≡ before ++ front = rw (ends, size_is) (front_is (before ++ front)) in
-    takes some last ∙ left_is ∙ ap (λ (text : List ℕ). before ++ text) (sym rest)
+    let left_is : take (length all - 1) all ≡ before ++ front = rw ends (front_is (before ++ front)) in
+    taken ∙ left_is ∙ ap (λ (text : List ℕ). before ++ text) (sym rest)

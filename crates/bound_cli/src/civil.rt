@@ -1,6 +1,5 @@
 //! Lines with civil times.
-ghost use Rattle.std.specs.Prelude.{◌≡◌, ◌++◌, OnOk};
-ghost use Rattle.std.specs.String.{string_bytes};
+ghost use Rattle.std.specs.Prelude.{◌≡◌, ◌++◌, vec_items, OnOk};
 ghost use Rattle.bound_cli.specs.Civil.{civil_fields, civil_line, interval_in, interval_told, line_with};
 
 use crate::times::Times;
@@ -37,20 +36,20 @@ fn interval_in(line: &Printed) -> Option<Interval>
 }
 
 #[tactic(auto, unfolding(crate::specs::Civil::civil_fields))]
-fn put_fields(text: &mut String, interval: &Interval) -> Result<(), AllocError>
-    ensures { OnOk result (string_bytes text.new ≡ string_bytes text.old ++ civil_fields interval.now) }
+fn put_fields(text: &mut Vec<u8>, interval: &Interval) -> Result<(), AllocError>
+    ensures { OnOk result (vec_items text.new ≡ vec_items text.old ++ civil_fields interval.now) }
 {
-    text.push_str(",")?;
+    text.extend_from_slice(b",".as_slice())?;
     put_civil(text, interval.earliest)?;
-    text.push_str(",")?;
+    text.extend_from_slice(b",".as_slice())?;
     put_civil(text, interval.latest)?;
-    text.push_str("\n")
+    text.extend_from_slice(b"\n".as_slice())
 }
 
 // A line with the civil times of its interval, where it has one.
 #[tactic(auto, unfolding(crate::specs::Civil::civil_line))]
-fn put_civil_line(text: &mut String, line: &Printed) -> Result<(), AllocError>
-    ensures { OnOk result (string_bytes text.new ≡ string_bytes text.old ++ civil_line line.now) }
+fn put_civil_line(text: &mut Vec<u8>, line: &Printed) -> Result<(), AllocError>
+    ensures { OnOk result (vec_items text.new ≡ vec_items text.old ++ civil_line line.now) }
 {
     put_line(text, line)?;
     match interval_in(line) {
@@ -63,8 +62,8 @@ fn put_civil_line(text: &mut String, line: &Printed) -> Result<(), AllocError>
 }
 
 /// Appends a line.
-pub fn put_line_with(text: &mut String, times: Times, line: &Printed) -> Result<(), AllocError>
-    ensures { OnOk result (string_bytes text.new ≡ string_bytes text.old ++ line_with times line.now) }
+pub fn put_line_with(text: &mut Vec<u8>, times: Times, line: &Printed) -> Result<(), AllocError>
+    ensures { OnOk result (vec_items text.new ≡ vec_items text.old ++ line_with times line.now) }
 {
     match times {
         Times::Nanoseconds => put_line(text, line),

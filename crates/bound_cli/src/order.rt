@@ -1,6 +1,5 @@
 //! A trace in, stamps and leases by its answers out.
-ghost use Rattle.std.specs.Prelude.{◌≡◌, ◌≤◌, length, IfOk};
-ghost use Rattle.std.specs.String.{string_bytes};
+ghost use Rattle.std.specs.Prelude.{◌≡◌, ◌≤◌, vec_items, length, IfOk};
 ghost use Rattle.bound_order.specs.declared.lease.TheConstants.{LONGEST_LEASE};
 ghost use Rattle.abstract_run.specs.declared.limits.TheConstants.{MOST_EVENTS};
 ghost use Rattle.abstract_run.specs.RunWhole.{run_of};
@@ -29,28 +28,28 @@ fn ordering(
     lease: u64,
     trace: &Trace,
     events: &[Event],
-) -> Result<String, AllocError>
+) -> Result<Vec<u8>, AllocError>
     requires short { lease ≤ LONGEST_LEASE }
     requires few { length events.now ≤ MOST_EVENTS }
     requires can { CanRun trace.now }
     requires run { events.now ≡ (run_of trace.now).events }
-    ensures report { IfOk result (λ text. string_bytes text ≡ ordering_text lease trace.now events.now) }
+    ensures report { IfOk result (λ text. vec_items text ≡ ordering_text lease trace.now events.now) }
 {
     given(trace);
     ordered_laws();
     let told = answers_told(alloc, trace.clock.as_slice(), events)?;
     let premises = premises_of(alloc, trace, events)?;
-    let mut text = String::with_capacity(alloc, ANSWER_ROOM * (told.len() + 2))?;
+    let mut text = Vec::with_capacity(alloc, ANSWER_ROOM * (told.len() + 2))?;
     put_order(alloc, &mut text, told.as_slice(), lease)?;
     put_premises(&mut text, &premises)?;
     Ok(text)
 }
 
 // Of a trace's run.
-fn ordering_of_run(alloc: Global, length: u64, trace: &Trace) -> Result<String, AllocError>
+fn ordering_of_run(alloc: Global, length: u64, trace: &Trace) -> Result<Vec<u8>, AllocError>
     requires short { length ≤ LONGEST_LEASE }
     requires can { CanRun trace.now }
-    ensures report { IfOk result (λ text. string_bytes text ≡ ordering_text length trace.now (run_of trace.now).events) }
+    ensures report { IfOk result (λ text. vec_items text ≡ ordering_text length trace.now (run_of trace.now).events) }
 {
     given(trace);
     words_show();
@@ -65,9 +64,9 @@ fn ordering_of_run(alloc: Global, length: u64, trace: &Trace) -> Result<String, 
 /// The stamps and leases by the answers of a text's trace, or the fault of its first refused line. `length` is that of a lease, in
 /// nanoseconds.
 #[tactic(auto, unfolding(crate::specs::Order::order_report))]
-pub fn ordered(alloc: Global, length: u64, bytes: &[u8]) -> Result<String, TraceError>
+pub fn ordered(alloc: Global, length: u64, bytes: &[u8]) -> Result<Vec<u8>, TraceError>
     requires { length ≤ LONGEST_LEASE }
-    ensures report { Gives string_bytes result (order_report length bytes.now) }
+    ensures report { Gives vec_items result (order_report length bytes.now) }
 {
     let trace = read_trace(alloc, bytes)?;
     Ok(ordering_of_run(alloc, length, &trace)?)

@@ -1,6 +1,5 @@
 //! The report of a run: a line for each of its events, their counts, and whether the promises of its answers were kept.
-ghost use Rattle.std.specs.Prelude.{◌≡◌, ◌≤◌, ◌++◌, length, IfOk, OnOk};
-ghost use Rattle.std.specs.String.{string_bytes};
+ghost use Rattle.std.specs.Prelude.{◌≡◌, ◌≤◌, ◌++◌, vec_items, length, IfOk, OnOk};
 ghost use Rattle.abstract_run.specs.declared.limits.TheConstants.{MOST_EVENTS};
 ghost use Rattle.abstract_run.specs.Given.{CanRun};
 ghost use Rattle.run_promises.specs.Judged.{premises_of};
@@ -96,12 +95,12 @@ fn printed(start: u32, event: &Event) -> Printed
 }
 
 fn put_events(
-    text: &mut String,
+    text: &mut Vec<u8>,
     times: Times,
     start: u32,
     events: &[Event],
 ) -> Result<(), AllocError>
-    ensures { OnOk result (string_bytes text.new ≡ string_bytes text.old ++ lines_of times start events.now) }
+    ensures { OnOk result (vec_items text.new ≡ vec_items text.old ++ lines_of times start events.now) }
 {
     'events: for event in events {
         put_line_with(text, times, &printed(start, event))?;
@@ -143,14 +142,14 @@ pub fn premises_of(alloc: Global, trace: &Trace, events: &[Event]) -> Result<Pre
 #[tactic(auto, unfolding(crate::specs::Replay::summary_text))]
 pub fn put_summary(
     alloc: Global,
-    text: &mut String,
+    text: &mut Vec<u8>,
     trace: &Trace,
     events: &[Event],
 ) -> Result<(), AllocError>
     requires few { length events.now ≤ MOST_EVENTS }
     requires can { CanRun trace.now }
     requires run { events.now ≡ (run_of trace.now).events }
-    ensures { OnOk result (string_bytes text.new ≡ string_bytes text.old ++ summary_text trace.now events.now) }
+    ensures { OnOk result (vec_items text.new ≡ vec_items text.old ++ summary_text trace.now events.now) }
 {
     let premises = premises_of(alloc, trace, events)?;
     put_line(text, &total(&totals_of(events)))?;
@@ -164,13 +163,13 @@ pub fn report(
     times: Times,
     trace: &Trace,
     events: &[Event],
-) -> Result<String, AllocError>
+) -> Result<Vec<u8>, AllocError>
     requires few { length events.now ≤ MOST_EVENTS }
     requires can { CanRun trace.now }
     requires run { events.now ≡ (run_of trace.now).events }
-    ensures { IfOk result (λ text. string_bytes text ≡ report_text times trace.now events.now) }
+    ensures { IfOk result (λ text. vec_items text ≡ report_text times trace.now events.now) }
 {
-    let mut text = String::with_capacity(alloc, LINE_ROOM * (events.len() + 3))?;
+    let mut text = Vec::with_capacity(alloc, LINE_ROOM * (events.len() + 3))?;
     put_line(&mut text, &Printed::Header)?;
     put_events(&mut text, times, start_count(&trace.page), events)?;
     put_summary(alloc, &mut text, trace, events)?;

@@ -1,6 +1,5 @@
 //! The date and time at an instant, and its text.
-ghost use Rattle.std.specs.Prelude.{◌≡◌, ◌++◌, ◌↔◌, IsTrue, OnOk};
-ghost use Rattle.std.specs.String.{string_bytes};
+ghost use Rattle.std.specs.Prelude.{◌≡◌, ◌++◌, ◌↔◌, vec_items, IsTrue, OnOk};
 ghost use Rattle.civil_time.specs.Civil.{IsInstant, IsDateTimeOf, civil_text, shown_text, utc_text};
 
 use crate::limits::{FIRST_INSTANT, LAST_INSTANT};
@@ -33,18 +32,18 @@ pub fn utc_at(nanoseconds: i128) -> DateTime
     }
 }
 
-fn put_utc(text: &mut String, shown: DateTime) -> Result<(), AllocError>
-    ensures { OnOk result (string_bytes text.new ≡ string_bytes text.old ++ utc_text shown) }
+fn put_utc(text: &mut Vec<u8>, shown: DateTime) -> Result<(), AllocError>
+    ensures { OnOk result (vec_items text.new ≡ vec_items text.old ++ utc_text shown) }
 {
     let printer = DateTimePrinter::new().precision(Some(9));
     let shown = printer.datetime_text(shown.to_plain());
-    let shown = shown.as_str();
-    write!(text, "{shown}Z")
+    text.extend_from_slice(shown.as_str().as_bytes())?;
+    text.extend_from_slice(b"Z".as_slice())
 }
 
-fn put_shown(text: &mut String, nanoseconds: i128) -> Result<(), AllocError>
+fn put_shown(text: &mut Vec<u8>, nanoseconds: i128) -> Result<(), AllocError>
     requires { IsInstant nanoseconds }
-    ensures { OnOk result (string_bytes text.new ≡ string_bytes text.old ++ shown_text nanoseconds) }
+    ensures { OnOk result (vec_items text.new ≡ vec_items text.old ++ shown_text nanoseconds) }
 {
     put_utc(text, utc_at(nanoseconds))
 }
@@ -52,8 +51,8 @@ fn put_shown(text: &mut String, nanoseconds: i128) -> Result<(), AllocError>
 /// Appends the date and time of UTC at an instant, as `2023-11-14T22:13:22.499630858Z`, or nothing where its year hasn't four
 /// digits (`is_instant`). The instant is in nanoseconds since 1970-01-01T00:00:00Z. After want of memory the text may end with a
 /// part of it.
-pub fn put_civil(text: &mut String, nanoseconds: i128) -> Result<(), AllocError>
-    ensures { OnOk result (string_bytes text.new ≡ string_bytes text.old ++ civil_text nanoseconds) }
+pub fn put_civil(text: &mut Vec<u8>, nanoseconds: i128) -> Result<(), AllocError>
+    ensures { OnOk result (vec_items text.new ≡ vec_items text.old ++ civil_text nanoseconds) }
 {
     if is_instant(nanoseconds) {
         put_shown(text, nanoseconds)

@@ -31,10 +31,10 @@ fn an_instant_has_its_text(rt: HostRuntime) -> Result<(), Fail> {
         (LAST_INSTANT + 1, ""),
         (i128::MAX, ""),
     ] {
-        let mut text = String::from_str(rt.alloc(), "at ")?;
+        let mut text = Vec::from_slice(rt.alloc(), b"at ")?;
         put_civil(&mut text, nanoseconds)?;
         let want = format!(in rt.alloc(); "at {want}")?;
-        assert_eq!(rt; text.as_str(), want.as_str());
+        assert_eq!(rt; text.as_slice(), want.as_bytes());
     }
     Ok(())
 }

@@ -1,8 +1,8 @@
 //! How many stamps were drawn, how many waits ended, and how often the lease was granted and acted under.
-ghost use Rattle.std.specs.Prelude.{◌≡◌, ◌++◌, OnOk};
-ghost use Rattle.std.specs.String.{string_bytes};
+ghost use Rattle.std.specs.Prelude.{◌≡◌, ◌++◌, [], vec_items, OnOk};
 ghost use Rattle.order_text.specs.Lines.{acts_in, done_in, grants_in, is_act, is_done, is_grant, is_stamp, stamps_in, total_line};
 
+use backward_line::BackwardLine;
 use bound_order::{Lease, Step, Waiting};
 use std::alloc::AllocError;
 
@@ -74,12 +74,27 @@ fn acts_in(steps: &[Step]) -> usize
     steps.iter().filter(|step| is_act(&step.lease)).count()
 }
 
-/// Appends the counts of these steps.
 #[tactic(auto, unfolding(crate::specs::Lines::total_line))]
-pub fn put_total(text: &mut String, steps: &[Step]) -> Result<(), AllocError>
-    ensures { OnOk result (string_bytes text.new ≡ string_bytes text.old ++ total_line steps.now) }
+fn put_total_text(line: &mut BackwardLine, steps: &[Step])
+    requires { line.old ≡ [] }
+    ensures { line.new ≡ total_line steps.now }
 {
-    let (stamps, done) = (stamps_in(steps), done_in(steps));
-    let (grants, acts) = (grants_in(steps), acts_in(steps));
-    write!(text, "total,{stamps},{done},{grants},{acts}\n")
+    line.put_byte(b'\n');
+    line.put_number(acts_in(steps) as u64);
+    line.put_byte(b',');
+    line.put_number(grants_in(steps) as u64);
+    line.put_byte(b',');
+    line.put_number(done_in(steps) as u64);
+    line.put_byte(b',');
+    line.put_number(stamps_in(steps) as u64);
+    line.put_word(b"total,".as_slice());
+}
+
+/// Appends the counts of these steps.
+pub fn put_total(text: &mut Vec<u8>, steps: &[Step]) -> Result<(), AllocError>
+    ensures { OnOk result (vec_items text.new ≡ vec_items text.old ++ total_line steps.now) }
+{
+    let mut line = BackwardLine::new();
+    put_total_text(&mut line, steps);
+    text.extend_from_slice(line.as_slice())
 }

@@ -1,5 +1,4 @@
-ghost use Rattle.std.specs.Prelude.{◌≡◌, ◌≤◌, ◌++◌, All, OnOk};
-ghost use Rattle.std.specs.String.{string_bytes};
+ghost use Rattle.std.specs.Prelude.{◌≡◌, ◌≤◌, ◌++◌, vec_items, All, OnOk};
 ghost use Rattle.bound_order.specs.Ordering.{IsTold, order_of};
 ghost use Rattle.bound_order.specs.declared.lease.TheConstants.{LONGEST_LEASE};
 ghost use Rattle.order_text.specs.Lines.{order_text};
@@ -15,13 +14,13 @@ use std::alloc::{AllocError, Global};
 #[tactic(auto, using(crate::proofs::Texts::as_many), unfolding(crate::specs::Lines::order_text))]
 pub fn put_order(
     alloc: Global,
-    text: &mut String,
+    text: &mut Vec<u8>,
     told: &[Told],
     length: u64,
 ) -> Result<(), AllocError>
     requires told { All IsTold told.now }
     requires length { length ≤ LONGEST_LEASE }
-    ensures { OnOk result (string_bytes text.new ≡ string_bytes text.old ++ order_text told.now (order_of length told.now)) }
+    ensures { OnOk result (vec_items text.new ≡ vec_items text.old ++ order_text told.now (order_of length told.now)) }
 {
     let steps = match order(alloc, told, length) {
         Ok(steps) => steps,

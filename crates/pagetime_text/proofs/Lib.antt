@@ -1,3 +1,3 @@
-pub mod Lines
 pub mod Spelled
 pub mod Steps
+pub mod Telling

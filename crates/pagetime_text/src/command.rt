@@ -2,8 +2,7 @@
 ghost use Rattle.csv_records.specs.TraceError.{Gives};
 ghost use Rattle.pagetime_text.specs.Text.{pagetime_text};
 
-use crate::reading::read_rows;
-use crate::text::report_text;
+use crate::reading::told;
 use clock_gate::List;
 use csv_records::TraceError;
 use std::alloc::Global;
@@ -15,11 +14,9 @@ use std::alloc::Global;
 /// A text that says no such rows is refused by its first refused record and the first reason to refuse that. The reasons
 /// are, in order, `Kind`, `Fields`, `Number` and `Hex` from the left, `Order`, `Page` and `Limit`; a text without records
 /// is of no kind at line 1.
-#[tactic(auto, unfolding(crate::specs::Text::pagetime_text))]
 pub fn pagetime(alloc: Global, bytes: &[u8]) -> Result<List<u8>, TraceError>
     ensures { Gives (λ text. text) result (pagetime_text bytes.now) }
 {
-    let rows = read_rows(alloc, bytes)?;
-    let text = report_text(alloc, &rows)?;
+    let text = told(alloc, bytes)?;
     Ok(List::from_vec(text))
 }

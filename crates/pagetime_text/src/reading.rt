@@ -1,25 +1,20 @@
-//! The rows that a text says.
-ghost use Rattle.std.specs.Prelude.{◌≤◌, IfOk, length, vec_items};
+//! What is told of a text.
+ghost use Rattle.std.specs.Prelude.{vec_items};
 ghost use Rattle.csv_records.specs.TraceError.{Gives};
-ghost use Rattle.vmclock_time.specs.Reads.{BeginsWithPage};
-ghost use Rattle.vmclock_time.specs.declared.limits.TheConstants.{MOST_PAGE_ROWS};
-ghost use Rattle.pagetime_text.specs.Facts.{rows_in};
+ghost use Rattle.pagetime_text.specs.Text.{pagetime_text};
 
 use crate::held::Held;
 use csv_records::{Records, TraceError, roomy_row};
 use std::alloc::Global;
-use vmclock_time::PageRow;
 
-/// The rows that a text says, or its first refused record with the first reason to refuse it. A report can be made of
-/// the rows.
-pub fn read_rows(alloc: Global, bytes: &[u8]) -> Result<Vec<PageRow>, TraceError>
-    ensures rows { Gives vec_items result (rows_in bytes.now) }
-    ensures most { IfOk result (λ rows. length rows.items ≤ MOST_PAGE_ROWS) }
-    ensures begins { IfOk result (λ rows. BeginsWithPage rows.items) }
+/// The report of the rows that a text says, or its first refused record with the first reason to refuse it. Each read is told as
+/// it is read.
+pub fn told(alloc: Global, bytes: &[u8]) -> Result<Vec<u8>, TraceError>
+    ensures { Gives vec_items result (pagetime_text bytes.now) }
 {
     let mut ahead = Records::new(alloc, bytes);
     let mut row = roomy_row(alloc)?;
-    let mut held = Held::new(alloc);
+    let mut held = Held::new(alloc)?;
     'reading: loop {
         if !ahead.read(&mut row)? {
             return held.finish();

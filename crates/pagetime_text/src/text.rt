@@ -1,19 +1,15 @@
 //! The text of a report. Each function appends its part of it.
-ghost use Rattle.std.specs.Prelude.{◌≡◌, ◌≤◌, ◌+◌, ◌++◌, [], codes, decimal, length, vec_items, IfOk, OnOk};
-ghost use Rattle.vmclock_time.specs.Reads.{BeginsWithPage};
+ghost use Rattle.std.specs.Prelude.{◌≡◌, ◌≤◌, ◌+◌, ◌++◌, [], codes, decimal, length, vec_items, OnOk};
 ghost use Rattle.vmclock_time.specs.declared.rows.PageTold.TheVariants.{Time};
-ghost use Rattle.vmclock_time.specs.declared.limits.TheConstants.{MOST_PAGE_ROWS};
-ghost use Rattle.pagetime_text.specs.Text.{failed_line, header_line, premises_line, read_part, refused_line, report_text, told_line, told_lines, why_part};
+ghost use Rattle.pagetime_text.specs.Text.{failed_line, header_line, premises_line, read_part, refused_line, told_line, why_part};
 
 use backward_line::BackwardLine;
-use std::alloc::{AllocError, Global};
-use vmclock_time::{PageFailed, PageRow, PageTimeFault, PageTold, PageWhy, page_report};
+use std::alloc::AllocError;
+use vmclock_time::{PageFailed, PageTimeFault, PageTold, PageWhy};
 
-// Room for a line: a text grows where one is longer.
-const LINE_ROOM: usize = 48;
-
+/// Appends the first line.
 #[tactic(auto, unfolding(crate::specs::Text::header_line))]
-fn put_header(text: &mut Vec<u8>) -> Result<(), AllocError>
+pub fn put_header(text: &mut Vec<u8>) -> Result<(), AllocError>
     ensures { OnOk result (vec_items text.new ≡ vec_items text.old ++ header_line) }
 {
     text.extend_from_slice(b"pagetime-report,1\n".as_slice())
@@ -76,21 +72,13 @@ fn put_told_text(line: &mut BackwardLine, told: PageTold)
     }
 }
 
-fn put_told(text: &mut Vec<u8>, told: PageTold) -> Result<(), AllocError>
+/// Appends the line of a read.
+pub fn put_told(text: &mut Vec<u8>, told: PageTold) -> Result<(), AllocError>
     ensures { OnOk result (vec_items text.new ≡ vec_items text.old ++ told_line told) }
 {
     let mut line = BackwardLine::new();
     put_told_text(&mut line, told);
     text.extend_from_slice(line.as_slice())
-}
-
-fn put_lines(text: &mut Vec<u8>, told: &[PageTold]) -> Result<(), AllocError>
-    ensures { OnOk result (vec_items text.new ≡ vec_items text.old ++ told_lines told.now) }
-{
-    'lines: for line in told {
-        put_told(text, *line)?;
-    }
-    Ok(())
 }
 
 #[tactic(auto, unfolding(crate::specs::Text::read_part))]
@@ -130,29 +118,13 @@ fn put_failed(text: &mut Vec<u8>, failed: PageFailed) -> Result<(), AllocError>
     put_why(text, failed.why)
 }
 
+/// Appends the last line.
 #[tactic(auto, unfolding(crate::specs::Text::premises_line))]
-fn put_premises(text: &mut Vec<u8>, failed: Option<PageFailed>) -> Result<(), AllocError>
+pub fn put_premises(text: &mut Vec<u8>, failed: Option<PageFailed>) -> Result<(), AllocError>
     ensures { OnOk result (vec_items text.new ≡ vec_items text.old ++ premises_line failed) }
 {
     match failed {
         None => text.extend_from_slice(b"premises,held\n".as_slice()),
         Some(failed) => put_failed(text, failed),
     }
-}
-
-/// The report of rows: a line for each read and one for the premises.
-#[tactic(auto, unfolding(crate::specs::Text::report_text))]
-pub fn report_text(alloc: Global, rows: &[PageRow]) -> Result<Vec<u8>, AllocError>
-    requires most { length rows.now ≤ MOST_PAGE_ROWS }
-    requires begins { BeginsWithPage rows.now }
-    ensures { IfOk result (λ text. vec_items text ≡ report_text rows.now) }
-{
-    let Ok(report) = page_report(alloc, rows) else {
-        return Err(AllocError);
-    };
-    let mut text = Vec::with_capacity(alloc, LINE_ROOM * (rows.len() + 2))?;
-    put_header(&mut text)?;
-    put_lines(&mut text, report.told.as_slice())?;
-    put_premises(&mut text, report.failed)?;
-    Ok(text)
 }

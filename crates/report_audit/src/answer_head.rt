@@ -1,23 +1,14 @@
 //! An answer at the head of a text.
-ghost use Rattle.std.specs.Prelude.{◌≡◌, ◌≢◌, ℕ, List, ◌++◌, IfOk, IfSome, IfNone};
+ghost use Rattle.std.specs.Prelude.{◌≡◌, ◌≢◌, ℕ, List, ◌++◌, IfSome, IfNone};
 ghost use Rattle.lawful_report.specs.Lines.{answered_line};
 
-use crate::reading::after_line;
-use clock_gate::Memory;
 use interval_now::Answer;
-use lawful_report::{Call, Printed};
-use std::alloc::Global;
+use lawful_report::{Call, Printed, after_line};
 
 /// What follows the line of this answer to a call, where the text begins with it.
-pub fn after_answer<'a>(
-    alloc: Global,
-    text: &'a [u8],
-    call: Call,
-    page: u32,
-    answer: Answer,
-) -> Result<Option<&'a [u8]>, Memory>
-    ensures found { IfOk result (λ rest. IfSome rest (λ later. text.now ≡ answered_line call.client call.number page answer ++ later.now)) }
-    ensures other { IfOk result (λ rest. IfNone rest ((later : List ℕ) → text.now ≢ answered_line call.client call.number page answer ++ later)) }
+pub fn after_answer<'a>(text: &'a [u8], call: Call, page: u32, answer: Answer) -> Option<&'a [u8]>
+    ensures found { IfSome result (λ later. text.now ≡ answered_line call.client call.number page answer ++ later.now) }
+    ensures other { IfNone result ((later : List ℕ) → text.now ≢ answered_line call.client call.number page answer ++ later) }
 {
     let line = Printed::Answered {
         client: call.client,
@@ -25,5 +16,5 @@ pub fn after_answer<'a>(
         page,
         answer,
     };
-    after_line(alloc, text, &line)
+    after_line(text, &line)
 }

@@ -15,12 +15,10 @@ use crate::time_answer::time_answer;
 use clock_gate::{Memory, Trace};
 use interval_now::Answer;
 use lawful_report::{Call, Seen};
-use std::alloc::Global;
 
 /// The answer to a call that begins the text, where its client has seen this: what the client has seen then, the answer, and what
 /// follows its line. `None` exactly where none that may stand begins it.
 pub fn answer_at<'a>(
-    alloc: Global,
     trace: &Trace,
     known: &Known,
     progress: &Progress,
@@ -39,27 +37,27 @@ pub fn answer_at<'a>(
     requires entries { All EntryFits progress.now.entries.items }
     ensures { IfOk result (λ found. (course : Course) → ShowsCourse course progress.now → AnswerFound trace.now course call seen text.now IsAnyAnswer found) }
 {
-    match nothing_answer(alloc, call, seen, text) {
+    match nothing_answer(call, seen, text) {
         Err(Memory) => return Err(Memory),
         Ok(Some(found)) => return Ok(Some(found)),
         Ok(None) => {}
     }
     let numbers = five_numbers(text);
-    match time_answer(alloc, trace, known, progress, call, seen, numbers, text) {
+    match time_answer(trace, known, progress, call, seen, numbers, text) {
         Err(Memory) => return Err(Memory),
         Ok(Some(found)) => return Ok(Some(found)),
         Ok(None) => {}
     }
-    match busy_answer(alloc, trace, progress.point, call, seen, numbers, text) {
+    match busy_answer(trace, progress.point, call, seen, numbers, text) {
         Err(Memory) => return Err(Memory),
         Ok(Some(found)) => return Ok(Some(found)),
         Ok(None) => {}
     }
-    match page_busy_answer(alloc, known.pages, call, seen, numbers, text) {
+    match page_busy_answer(known.pages, call, seen, numbers, text) {
         Err(Memory) => return Err(Memory),
         Ok(Some(found)) => return Ok(Some(found)),
         Ok(None) => {}
     }
     // The last of the kinds: a search that finds nothing is then the end of the audit.
-    early_answer(alloc, trace, progress, call, seen, numbers, text)
+    early_answer(trace, progress, call, seen, numbers, text)
 }

@@ -15,13 +15,7 @@ use clock_gate::{Memory, Trace};
 use std::alloc::Global;
 
 // Takes line after line.
-fn judge(
-    alloc: Global,
-    trace: &Trace,
-    known: &Known,
-    begun: Auditor,
-    report: &[u8],
-) -> Result<Verdict, Memory>
+fn judge(trace: &Trace, known: &Known, begun: Auditor, report: &[u8]) -> Result<Verdict, Memory>
     requires lawful { IsLawfulTrace trace.now }
     requires knows { KnowsTrace trace.now known.now }
     requires small { StartIsSmall trace.now }
@@ -38,7 +32,7 @@ fn judge(
             }
             return Ok(Verdict::Unlawful(number));
         }
-        let Some(later) = auditor.next(alloc, trace, known, rest)? else {
+        let Some(later) = auditor.next(trace, known, rest)? else {
             return Ok(Verdict::Unlawful(number));
         };
         rest = later;
@@ -58,5 +52,5 @@ pub fn audit(alloc: Global, trace: &Trace, report: &[u8]) -> Result<Verdict, Mem
 {
     let known = known_of(alloc, trace)?;
     let begun = auditor_of(alloc, trace)?;
-    judge(alloc, trace, &known, begun, report)
+    judge(trace, &known, begun, report)
 }

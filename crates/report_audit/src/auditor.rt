@@ -22,11 +22,10 @@ use crate::known::Known;
 use crate::opening::{last_entry, moves, start_at};
 use crate::progress::{Progress, push_entry};
 use crate::publication_line::publication_at;
-use crate::reading::after_line;
 use clock_gate::{ClockStatus, MOST_STORES, Memory, PollRow, Trace};
 use generation_word::generation;
 use interval_now::Answer;
-use lawful_report::{Call, Counts, Entry, Printed, Seen};
+use lawful_report::{Call, Counts, Entry, Printed, Seen, after_line};
 use status_machine::{Daemon, hear};
 use std::alloc::Global;
 
@@ -149,7 +148,6 @@ fn counted(counts: Counts, answer: &Answer) -> Counts
 impl Auditor {
     fn heading<'a>(
         &mut self,
-        alloc: Global,
         trace: &Trace,
         known: &Known,
         text: &'a [u8],
@@ -157,19 +155,14 @@ impl Auditor {
         requires knows { KnowsTrace trace.now known.now }
         ensures { IfOk result (λ found. (course : Course) (counts : Counted) → Holds course counts self.old → NextFound trace.now known.now (at course counts Heading) text.now found self.new) }
     {
-        let Some(later) = after_line(alloc, text, &Printed::Header)? else {
+        let Some(later) = after_line(text, &Printed::Header) else {
             return Ok(None);
         };
         self.due = due_next(trace, known, &self.progress);
         Ok(Some(later))
     }
 
-    fn opening<'a>(
-        &mut self,
-        alloc: Global,
-        trace: &Trace,
-        text: &'a [u8],
-    ) -> Result<Option<&'a [u8]>, Memory>
+    fn opening<'a>(&mut self, trace: &Trace, text: &'a [u8]) -> Result<Option<&'a [u8]>, Memory>
         requires polled { self.old.progress.polled ≤ 100000 }
         requires drift { trace.now.drift ≤ 1000000000 }
         ensures { IfOk result (λ found. (known : Knows) (course : Course) (counts : Counted) → Holds course counts self.old → NextFound trace.now known (at course counts Opening) text.now found self.new) }
@@ -179,7 +172,7 @@ impl Auditor {
         let due = due_opened(moves(trace, self.progress.polled, &start));
         let daemon = Daemon::resume(&start, trace.drift, trace.page.is_some(), last.base);
         let poll = self.progress.polled + 1;
-        let Some(later) = after_line(alloc, text, &Printed::Opened { poll, start })? else {
+        let Some(later) = after_line(text, &Printed::Opened { poll, start }) else {
             return Ok(None);
         };
         self.progress.life = Some(daemon);
@@ -187,12 +180,7 @@ impl Auditor {
         Ok(Some(later))
     }
 
-    fn moving<'a>(
-        &mut self,
-        alloc: Global,
-        trace: &Trace,
-        text: &'a [u8],
-    ) -> Result<Option<&'a [u8]>, Memory>
+    fn moving<'a>(&mut self, trace: &Trace, text: &'a [u8]) -> Result<Option<&'a [u8]>, Memory>
         requires polled { self.old.progress.polled ≤ 100000 }
         requires point { self.old.progress.point < 2 ^ 34 }
         ensures { IfOk result (λ found. (known : Knows) (course : Course) (counts : Counted) → Holds course counts self.old → NextFound trace.now known (at course counts Moving) text.now found self.new) }
@@ -203,7 +191,7 @@ impl Auditor {
             position,
             generation: generation(trace.layout, position),
         };
-        let Some(later) = after_line(alloc, text, &line)? else {
+        let Some(later) = after_line(text, &line) else {
             return Ok(None);
         };
         let rec = last_entry(&self.progress).rec;
@@ -222,7 +210,6 @@ impl Auditor {
     // After the poll's last store the daemon stops.
     fn stopping<'a>(
         &mut self,
-        alloc: Global,
         trace: &Trace,
         known: &Known,
         text: &'a [u8],
@@ -234,7 +221,7 @@ impl Auditor {
             poll: self.progress.polled,
             stores: MOST_STORES,
         };
-        let Some(later) = after_line(alloc, text, &line)? else {
+        let Some(later) = after_line(text, &line) else {
             return Ok(None);
         };
         self.due = due_next(trace, known, &self.progress);
@@ -244,7 +231,6 @@ impl Auditor {
     // The daemon stops before the publication ends.
     fn stopped<'a>(
         &mut self,
-        alloc: Global,
         trace: &Trace,
         known: &Known,
         stores: u8,
@@ -257,7 +243,7 @@ impl Auditor {
         ensures { IfOk result (λ found. (course : Course) (counts : Counted) (row : PolledRow) → Holds course counts self.old → slice_get trace.now.polls self.old.progress.polled ≡ Some row → row.stop ≡ Some stores → NoSkip trace.now course text.now → NextFound trace.now known.now (at course counts Polling) text.now found self.new) }
     {
         let poll = self.progress.polled + 1;
-        let Some(later) = after_line(alloc, text, &Printed::Stopped { poll, stores })? else {
+        let Some(later) = after_line(text, &Printed::Stopped { poll, stores }) else {
             return Ok(None);
         };
         self.progress.polled = poll;
@@ -270,7 +256,6 @@ impl Auditor {
     // The poll publishes its record, and the daemon goes on or stops then.
     fn publishing<'a>(
         &mut self,
-        alloc: Global,
         trace: &Trace,
         known: &Known,
         row: &PollRow,
@@ -288,7 +273,7 @@ impl Auditor {
             return Ok(None);
         };
         let heard = hear(row.reply.as_slice());
-        match publication_at(alloc, trace, known, &self.progress, daemon, heard, text) {
+        match publication_at(trace, known, &self.progress, daemon, heard, text) {
             Err(Memory) => Err(Memory),
             Ok(None) => Ok(None),
             Ok(Some((entry, daemon, later))) => {
@@ -333,7 +318,6 @@ impl Auditor {
     // The line of the poll at this row of the trace, where it isn't skipped.
     fn unskipped<'a>(
         &mut self,
-        alloc: Global,
         trace: &Trace,
         known: &Known,
         text: &'a [u8],
@@ -348,18 +332,15 @@ impl Auditor {
             return Ok(None);
         };
         match row.stop {
-            None => self.publishing(alloc, trace, known, row, false, text),
-            Some(MOST_STORES) => self.publishing(alloc, trace, known, row, true, text),
-            Some(stores) if stores < MOST_STORES => {
-                self.stopped(alloc, trace, known, stores, text)
-            }
+            None => self.publishing(trace, known, row, false, text),
+            Some(MOST_STORES) => self.publishing(trace, known, row, true, text),
+            Some(stores) if stores < MOST_STORES => { self.stopped(trace, known, stores, text) }
             Some(_) => Ok(None),
         }
     }
 
     fn polling<'a>(
         &mut self,
-        alloc: Global,
         trace: &Trace,
         known: &Known,
         text: &'a [u8],
@@ -371,9 +352,9 @@ impl Auditor {
         ensures { IfOk result (λ found. (course : Course) (counts : Counted) → Holds course counts self.old → NextFound trace.now known.now (at course counts Polling) text.now found self.new) }
     {
         let poll = self.progress.polled + 1;
-        let found = skip_at(alloc, known.pages, poll, self.progress.page, text)?;
+        let found = skip_at(known.pages, poll, self.progress.page, text)?;
         let Some((page, later)) = found else {
-            return self.unskipped(alloc, trace, known, text);
+            return self.unskipped(trace, known, text);
         };
         self.progress.polled = poll;
         self.progress.page = page;
@@ -382,7 +363,7 @@ impl Auditor {
     }
 
     // The counts, after the last answer.
-    fn counting<'a>(&mut self, alloc: Global, text: &'a [u8]) -> Result<Option<&'a [u8]>, Memory>
+    fn counting<'a>(&mut self, text: &'a [u8]) -> Result<Option<&'a [u8]>, Memory>
         ensures { IfOk result (λ found. (trace : Traced) (known : Knows) (course : Course) (counts : Counted) (seen : Sights) → Holds course counts self.old → NextFound trace known (at course counts (Answering seen [])) text.now found self.new) }
     {
         let counts = [
@@ -394,7 +375,7 @@ impl Auditor {
             self.counts.free_running,
             self.counts.disrupted,
         ];
-        let Some(later) = after_line(alloc, text, &Printed::Total { counts })? else {
+        let Some(later) = after_line(text, &Printed::Total { counts }) else {
             return Ok(None);
         };
         self.due = Due::Finished;
@@ -403,7 +384,6 @@ impl Auditor {
 
     fn answering<'a>(
         &mut self,
-        alloc: Global,
         trace: &Trace,
         known: &Known,
         seen: Seen,
@@ -418,10 +398,10 @@ impl Auditor {
         ensures { IfOk result (λ found. (course : Course) (counts : Counted) → Holds course counts self.old → NextFound trace.now known.now (at course counts (Answering seen (drop place known.now.calls))) text.now found self.new) }
     {
         let Some(call) = known.calls.get(place).copied() else {
-            return self.counting(alloc, text);
+            return self.counting(text);
         };
         let before = seen_before(known.first, seen, call);
-        match answer_at(alloc, trace, known, &self.progress, call, before, text) {
+        match answer_at(trace, known, &self.progress, call, before, text) {
             Err(Memory) => Err(Memory),
             Ok(None) => Ok(None),
             Ok(Some((after, answer, later))) => {
@@ -439,7 +419,6 @@ impl Auditor {
     /// stand here begins the text.
     pub fn next<'a>(
         &mut self,
-        alloc: Global,
         trace: &Trace,
         known: &Known,
         text: &'a [u8],
@@ -453,14 +432,12 @@ impl Auditor {
     {
         let due = self.due;
         match due {
-            Due::Heading => self.heading(alloc, trace, known, text),
-            Due::Opening => self.opening(alloc, trace, text),
-            Due::Moving => self.moving(alloc, trace, text),
-            Due::Polling => self.polling(alloc, trace, known, text),
-            Due::Stopping => self.stopping(alloc, trace, known, text),
-            Due::Answering { seen, place } => {
-                self.answering(alloc, trace, known, seen, place, text)
-            }
+            Due::Heading => self.heading(trace, known, text),
+            Due::Opening => self.opening(trace, text),
+            Due::Moving => self.moving(trace, text),
+            Due::Polling => self.polling(trace, known, text),
+            Due::Stopping => self.stopping(trace, known, text),
+            Due::Answering { seen, place } => { self.answering(trace, known, seen, place, text) }
             Due::Finished => Ok(None),
         }
     }

@@ -14,7 +14,6 @@ use crate::time_line::entry_at;
 use clock_gate::{ClockRow, Memory, Stamp, Trace};
 use interval_now::{Answer, Causality};
 use lawful_report::{Call, Entry, Seen};
-use std::alloc::Global;
 
 fn has_as_of(entry: &Entry, as_of: u64) -> bool
     ensures { IsTrue result ↔ (entry.now.rec.as_of ≡ pos as_of) }
@@ -92,7 +91,6 @@ fn as_of_after(as_of: u64, mono: u64) -> Option<Stamp>
 /// The answer that the reading lies before the record: it stands for the least point with that as-of, and then for the least row with
 /// that mono.
 pub fn early_answer<'a>(
-    alloc: Global,
     trace: &Trace,
     progress: &Progress,
     call: Call,
@@ -123,7 +121,7 @@ pub fn early_answer<'a>(
         return Ok(None);
     };
     let answer = Answer::Causality(Causality { as_of, mono });
-    match after_answer(alloc, text, call, 0, answer)? {
+    match after_answer(text, call, 0, answer) {
         Some(later) => {
             let page = seen.page;
             let answer = Answer::Causality(Causality { as_of, mono });

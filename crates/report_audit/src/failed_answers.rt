@@ -12,7 +12,6 @@ use crate::points::busy_point;
 use clock_gate::{Memory, Trace};
 use interval_now::Answer;
 use lawful_report::{Call, Seen};
-use std::alloc::Global;
 
 // What a client has seen that comes to this point.
 fn seen_at(seen: Seen, point: u64) -> Seen
@@ -38,7 +37,6 @@ fn seen_on(seen: Seen, page: u32) -> Seen
 
 /// The answer that nothing was published: it may stand where the client had come to no point.
 pub fn nothing_answer<'a>(
-    alloc: Global,
     call: Call,
     seen: Seen,
     text: &'a [u8],
@@ -48,7 +46,7 @@ pub fn nothing_answer<'a>(
     if seen.point != 0 {
         return Ok(None);
     }
-    match after_answer(alloc, text, call, 0, Answer::NotInitialized)? {
+    match after_answer(text, call, 0, Answer::NotInitialized) {
         Some(later) => Ok(Some((seen, Answer::NotInitialized, later))),
         None => Ok(None),
     }
@@ -57,7 +55,6 @@ pub fn nothing_answer<'a>(
 /// The answer of a client whose tries of the segment all failed, where the run comes to the point `until`: the point at which the last
 /// one failed is the least that shows its numbers.
 pub fn busy_answer<'a>(
-    alloc: Global,
     trace: &Trace,
     until: u64,
     call: Call,
@@ -82,7 +79,7 @@ pub fn busy_answer<'a>(
         return Ok(None);
     };
     let tries = call.tries;
-    match after_answer(alloc, text, call, 0, Answer::Busy { tries, first, last })? {
+    match after_answer(text, call, 0, Answer::Busy { tries, first, last }) {
         Some(later) => Ok(Some((
             seen_at(seen, point),
             Answer::Busy { tries, first, last },
@@ -94,7 +91,6 @@ pub fn busy_answer<'a>(
 
 /// The answer of a client whose tries of the page all failed: it has seen the page that their last count tells.
 pub fn page_busy_answer<'a>(
-    alloc: Global,
     pages: Pages,
     call: Call,
     seen: Seen,
@@ -115,7 +111,7 @@ pub fn page_busy_answer<'a>(
     let Some(page) = page_after(pages, seen.page, first, last) else {
         return Ok(None);
     };
-    match after_answer(alloc, text, call, 0, Answer::PageBusy { first, last })? {
+    match after_answer(text, call, 0, Answer::PageBusy { first, last }) {
         Some(later) => Ok(Some((seen_on(seen, page), Answer::PageBusy { first, last }, later))),
         None => Ok(None),
     }

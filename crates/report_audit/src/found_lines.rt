@@ -5,14 +5,12 @@ ghost use Rattle.report_audit.specs.KnownPages.{KnowsPages};
 ghost use Rattle.report_audit.specs.FoundLines.{SkipFound};
 
 use crate::pages::{Pages, page_after};
-use crate::reading::{after_line, six_numbers};
+use crate::reading::six_numbers;
 use clock_gate::Memory;
-use lawful_report::Printed;
-use std::alloc::Global;
+use lawful_report::{Printed, after_line};
 
 /// The line of a poll that was skipped, where page `page` was seen before: the page that it tells, and what follows it.
 pub fn skip_at<'a>(
-    alloc: Global,
     pages: Pages,
     poll: u32,
     page: u32,
@@ -32,7 +30,7 @@ pub fn skip_at<'a>(
     let Some(seen) = page_after(pages, page, first, last) else {
         return Ok(None);
     };
-    match after_line(alloc, text, &Printed::Skipped { poll, first, last })? {
+    match after_line(text, &Printed::Skipped { poll, first, last }) {
         Some(later) => Ok(Some((seen, later))),
         None => Ok(None),
     }

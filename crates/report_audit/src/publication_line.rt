@@ -13,13 +13,12 @@ ghost use Rattle.report_audit.specs.FoundLines.{PublicationFound, RowsFit};
 use crate::known::Known;
 use crate::poll_line::poll_at;
 use crate::progress::Progress;
-use crate::reading::{after_line, three_at};
+use crate::reading::three_at;
 use clock_gate::{Memory, Trace};
 use generation_word::generation;
-use lawful_report::{Entry, Printed};
+use lawful_report::{Entry, Printed, after_line};
 use segment_layout::Publication;
 use status_machine::{Daemon, Heard};
-use std::alloc::Global;
 
 // Whether a poll may name these after the row and the page that the daemon saw last: two rows of so many, and a page up to the last.
 fn rows_fit(
@@ -71,7 +70,6 @@ fn line_told(position: u64, page: u32, publication: Publication) -> Printed
 /// The publication of the poll that is next, by this daemon and this reply: the entry that it gives, the daemon after it, and what
 /// follows its line. `None` exactly where no publication of this poll begins the text.
 pub fn publication_at<'a>(
-    alloc: Global,
     trace: &Trace,
     known: &Known,
     progress: &Progress,
@@ -112,7 +110,7 @@ pub fn publication_at<'a>(
     };
     let entry = entry_told(&publication, page);
     let line = line_told(position, page, publication);
-    match after_line(alloc, text, &line)? {
+    match after_line(text, &line) {
         Some(later) => Ok(Some((entry, daemon, later))),
         None => Ok(None),
     }

@@ -1,25 +1,8 @@
-//! Lines read from a report: the numbers that a line has, and whether a text begins with a line.
-ghost use Rattle.std.specs.Prelude.{◌≡◌, ◌≢◌, ◌≤◌, ◌<◌, ◌+◌, ◌^◌, ℕ, List, ◌++◌, slice_index, IfOk, IfSome, IfNone};
-ghost use Rattle.lawful_report.specs.Lines.{line_text};
+//! The numbers of a report's line, wherever they stand.
+ghost use Rattle.std.specs.Prelude.{◌≡◌, ◌≤◌, ◌<◌, ◌+◌, ◌^◌, slice_index, IfSome, IfNone};
 ghost use Rattle.report_audit.specs.Numbers.{from_digit, next_number, numbers_in};
 
 use crate::leading::leading_number;
-use clock_gate::Memory;
-use lawful_report::{Printed, print_line};
-use std::alloc::Global;
-
-/// What follows this line, where the text begins with it.
-pub fn after_line<'a>(
-    alloc: Global,
-    text: &'a [u8],
-    line: &Printed,
-) -> Result<Option<&'a [u8]>, Memory>
-    ensures found { IfOk result (λ rest. IfSome rest (λ later. text.now ≡ line_text line.now ++ later.now)) }
-    ensures other { IfOk result (λ rest. IfNone rest ((later : List ℕ) → text.now ≢ line_text line.now ++ later)) }
-{
-    let printed = print_line(alloc, line)?;
-    Ok(text.strip_prefix(printed.as_slice()))
-}
 
 fn from_digit(text: &[u8]) -> &[u8]
     ensures { result.now ≡ from_digit text.now }

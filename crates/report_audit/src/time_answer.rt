@@ -14,7 +14,6 @@ use crate::time_line::{TimePlace, time_point};
 use clock_gate::{Memory, Trace, reading};
 use interval_now::{Answer, Interval, Timed};
 use lawful_report::{Call, Seen};
-use std::alloc::Global;
 
 // Whether a client that has seen this may name these: the generation of a record, a row of so many and a page up to the last.
 fn place_fits(seen: Seen, rows: usize, last: u32, generation: u32, row: u32, page: u32) -> bool
@@ -37,7 +36,6 @@ fn place_fits(seen: Seen, rows: usize, last: u32, generation: u32, row: u32, pag
 
 // The least point from this one on whose record gives the interval that begins the text, by a reading of this row.
 fn time_after<'a>(
-    alloc: Global,
     trace: &Trace,
     known: &Known,
     progress: &Progress,
@@ -57,7 +55,6 @@ fn time_after<'a>(
 {
     let clock = trace.clock.as_slice();
     time_point(
-        alloc,
         trace.layout.period(),
         progress.entries.as_slice(),
         progress.before,
@@ -72,7 +69,6 @@ fn time_after<'a>(
 
 /// The answer with an interval: it stands for the least point whose record gives it.
 pub fn time_answer<'a>(
-    alloc: Global,
     trace: &Trace,
     known: &Known,
     progress: &Progress,
@@ -103,7 +99,7 @@ pub fn time_answer<'a>(
         generation,
         page,
     };
-    let found = time_after(alloc, trace, known, progress, place, row, seen.point, text)?;
+    let found = time_after(trace, known, progress, place, row, seen.point, text)?;
     match found {
         Some((point, (interval, later))) => {
             let sequence = 0;

@@ -9,11 +9,9 @@ ghost use Rattle.lawful_report.specs.Course.{Course};
 ghost use Rattle.report_audit.specs.FoundLines.{KnowsTime, TimeFitsOrNot, KnowsRun, LeastTime};
 
 use crate::points::least_point;
-use crate::reading::after_line;
 use clock_gate::{Memory, Reading};
 use interval_now::{Answer, Interval, Timed, interval};
-use lawful_report::{Entry, Printed};
-use std::alloc::Global;
+use lawful_report::{Entry, Printed, after_line};
 
 /// The place in a report of an answer Time: its client and call, and what it names.
 #[derive(Clone, Copy, Debug, PartialEq, Eq)]
@@ -36,7 +34,6 @@ pub fn entry_at(entries: &[Entry], before: u64, position: u64) -> Option<Entry>
 
 /// Whether the answer with this place, for the record at this point, begins the text: its interval, and what follows it.
 pub fn time_at<'a>(
-    alloc: Global,
     entries: &[Entry],
     before: u64,
     place: TimePlace,
@@ -73,7 +70,7 @@ pub fn time_at<'a>(
         page: place.page,
         answer: Answer::Time(timed),
     };
-    match after_line(alloc, text, &line)? {
+    match after_line(text, &line) {
         Some(later) => Ok(Some((interval, later))),
         None => Ok(None),
     }
@@ -82,7 +79,6 @@ pub fn time_at<'a>(
 /// The least point from `from` to `until` whose record gives the answer with this place that begins the text; `None` exactly
 /// where there is none. It looks at one point in each period.
 pub fn time_point<'a>(
-    alloc: Global,
     period: u64,
     entries: &[Entry],
     before: u64,
@@ -110,7 +106,7 @@ pub fn time_point<'a>(
         let Some(point) = next else {
             return Ok(None);
         };
-        let found = time_at(alloc, entries, before, place, reading, marker, text, point)?;
+        let found = time_at(entries, before, place, reading, marker, text, point)?;
         match found {
             Some(found) => return Ok(Some((point, found))),
             None => cursor = point + 1,

@@ -1,5 +1,5 @@
 -- What a list of rows comes to.
-use Rattle.std.specs.Prelude.{List, map, Option, Result, Ok, Err, ℤ}
+use Rattle.std.specs.Prelude.{List, [], ◌∷◌, ◌++◌, map, Option, Some, None, Result, Ok, Err, ℤ}
 use Rattle.vmclock_time.specs.PageTime.{page_time_of}
 use Rattle.vmclock_time.specs.Premises.{first_failed}
 use Rattle.vmclock_time.specs.Reads.{PageRead, reads_of}
@@ -17,6 +17,11 @@ told_as (Err fault) = Refused fault
 -- what a read is told by its page
 unfoldable pub told_to : PageRead → PageTold
 told_to read = told_as (page_time_of read.page read.counter)
+
+-- one read more, where there is one
+abbrev pub told_more : List PageTold → Option PageRead → List PageTold
+told_more told None = told
+told_more told (Some read) = told ++ told_to read ∷ []
 
 -- what each read is told, in order
 unfoldable pub told_of : List PageRow → List PageTold

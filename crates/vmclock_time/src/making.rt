@@ -1,24 +1,22 @@
 //! A report in the making.
-ghost use Rattle.std.specs.Prelude.{◌≡◌, ◌<◌, OnOk, [], None, length};
-ghost use Rattle.vmclock_time.specs.Making.{Made, failed_first, with_row};
+ghost use Rattle.std.specs.Prelude.{◌≡◌, ◌<◌, is_some};
+ghost use Rattle.vmclock_time.specs.Making.{Made, failed_first, nothing_made, told_by, with_row};
 ghost use Rattle.vmclock_time.specs.PageReport.{told_as};
 ghost use Rattle.vmclock_time.specs.PageTime.{page_time_of};
 ghost use Rattle.vmclock_time.specs.declared.limits.TheConstants.{MOST_PAGE_ROWS};
 ghost use Rattle.vmclock_time.specs.declared.rows.PageRow.TheVariants as row;
 
 use crate::premises::failure;
-use crate::rows::{PageFailed, PageReport, PageRow, PageTold, PageWhy};
+use crate::rows::{PageFailed, PageTold, PageWhy};
 use crate::time::page_time;
-use clock_gate::List;
-use std::alloc::{AllocError, Global};
 use std::marker::Model;
 use vmclock_page::Page;
 
-/// What the reads so far were told, the first of them that failed a test, and the last page with true time at its
-/// counter value.
+/// A report in the making: how many reads there were, the first of them that failed a test, and the last page with true time at
+/// its counter value. What a read is told, it tells when it takes it.
 #[derive(Drop)]
 pub struct Making {
-    told: Vec<PageTold>,
+    reads: u32,
     failed: Option<PageFailed>,
     last: Option<(Page, Option<u64>)>,
 }
@@ -28,7 +26,7 @@ impl Model for Making {
 
     ghost Value = { Made };
 
-    ghost view = { λ m. record { told = m.told.items; failed = m.failed; last = m.last } };
+    ghost view = { λ m. record { reads = m.reads; failed = m.failed; last = m.last } };
 }
 
 // What a reading is told by a page.
@@ -53,60 +51,51 @@ fn first_failure(failed: Option<PageFailed>, read: u32, why: Option<PageWhy>) ->
 }
 
 impl Making {
-    pub fn new(alloc: Global) -> Making
-        ensures { result ≡ record { told = []; failed = None; last = None } }
+    /// Before the first row.
+    pub fn new() -> Making
+        ensures { result ≡ nothing_made }
     {
         Making {
-            told: Vec::new(alloc),
+            reads: 0,
             failed: None,
             last: None,
         }
     }
 
-    fn take_page(&mut self, page: &Page, truth: Option<u64>)
+    /// Whether a page was taken.
+    pub fn has_page(&self) -> bool
+        ensures { result ≡ is_some (Made.last self.now) }
+    {
+        self.last.is_some()
+    }
+
+    /// The first read that was told an interval and failed a test, with its first test.
+    pub fn failed(&self) -> Option<PageFailed>
+        ensures { result ≡ Made.failed self.now }
+    {
+        self.failed
+    }
+
+    /// Takes a page, and true time at its counter value.
+    pub fn take_page(&mut self, page: &Page, truth: Option<u64>)
         ensures { self.new ≡ with_row self.old (row.Page page.now truth) }
     {
         self.last = Some((*page, truth));
     }
 
+    /// Takes a reading of the counter of the last page, and true time at the reading: what it is told. Without a page it is none.
     #[tactic(auto, unfolding(crate::specs::PageReport::told_to))]
-    fn take_read(&mut self, counter: u64, truth: Option<u64>) -> Result<(), AllocError>
-        requires { length (Made.told self.old) < MOST_PAGE_ROWS }
-        ensures { OnOk result (self.new ≡ with_row self.old (row.Read counter truth)) }
+    pub fn take_read(&mut self, counter: u64, truth: Option<u64>) -> Option<PageTold>
+        requires { Made.reads self.old < MOST_PAGE_ROWS }
+        ensures row { self.new ≡ with_row self.old (row.Read counter truth) }
+        ensures told { result ≡ told_by (Made.last self.old) counter truth }
     {
         let last = self.last;
-        let Some((page, started)) = last else {
-            return Ok(());
-        };
-        let number = self.told.len() as u32 + 1;
+        let (page, started) = last?;
+        let number = self.reads + 1;
         let why = failure(&page, started, counter, truth);
-        self.told.push(told(&page, counter))?;
+        self.reads = number;
         self.failed = first_failure(self.failed, number, why);
-        Ok(())
-    }
-
-    /// Takes the next row.
-    pub fn take(&mut self, row: &PageRow) -> Result<(), AllocError>
-        requires { length (Made.told self.old) < MOST_PAGE_ROWS }
-        ensures { OnOk result (self.new ≡ with_row self.old row.now) }
-    {
-        match row {
-            PageRow::Page { page, truth } => {
-                self.take_page(page, *truth);
-                Ok(())
-            }
-            PageRow::Read { counter, truth } => self.take_read(*counter, *truth),
-        }
-    }
-
-    /// The report of the rows that were taken.
-    pub fn finish(self) -> PageReport
-        ensures told { result.told ≡ Made.told self }
-        ensures failed { result.failed ≡ Made.failed self }
-    {
-        PageReport {
-            told: List::from_vec(self.told),
-            failed: self.failed,
-        }
+        Some(told(&page, counter))
     }
 }

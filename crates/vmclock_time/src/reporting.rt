@@ -1,24 +1,47 @@
 //! The report of a list of rows.
-ghost use Rattle.std.specs.Prelude.{◌≡◌, ◌≤◌, IfOk, IfSome, IfNone, length};
-ghost use Rattle.vmclock_time.specs.PageReport.{failed_of, told_of};
+ghost use Rattle.std.specs.Prelude.{◌≡◌, ◌<◌, ◌≤◌, length, vec_items, IfOk, IfSome, IfNone, OnOk};
+ghost use Rattle.vmclock_time.specs.Making.{Made, with_row};
+ghost use Rattle.vmclock_time.specs.PageReport.{failed_of, told_more, told_of};
 ghost use Rattle.vmclock_time.specs.Premises.{AllHold, AreSafe, IsFirstFailed};
-ghost use Rattle.vmclock_time.specs.Reads.{BeginsWithPage, reads_of};
+ghost use Rattle.vmclock_time.specs.Reads.{BeginsWithPage, read_in, reads_of};
 ghost use Rattle.vmclock_time.specs.declared.limits.TheConstants.{MOST_PAGE_ROWS};
 
 use crate::making::Making;
-use crate::rows::{PageReport, PageRow};
-use clock_gate::Memory;
+use crate::rows::{PageReport, PageRow, PageTold};
+use clock_gate::{List, Memory};
 use std::alloc::{AllocError, Global};
+
+// What the reads are told, after one row more.
+fn take_row(told: &mut Vec<PageTold>, making: &mut Making, row: &PageRow) -> Result<(), AllocError>
+    requires { Made.reads making.old < MOST_PAGE_ROWS }
+    ensures told { OnOk result (vec_items told.new ≡ told_more (vec_items told.old) (read_in (Made.last making.old) row.now)) }
+    ensures made { OnOk result (making.new ≡ with_row making.old row.now) }
+{
+    match row {
+        PageRow::Page { page, truth } => {
+            making.take_page(page, *truth);
+            Ok(())
+        }
+        PageRow::Read { counter, truth } => match making.take_read(*counter, *truth) {
+            None => Ok(()),
+            Some(line) => Ok(told.push(line)?),
+        },
+    }
+}
 
 fn report(alloc: Global, rows: &[PageRow]) -> Result<PageReport, AllocError>
     requires { length rows.now ≤ MOST_PAGE_ROWS }
     ensures { IfOk result (λ report. (report.told ≡ told_of rows.now) × (report.failed ≡ failed_of rows.now)) }
 {
-    let mut making = Making::new(alloc);
+    let mut told = Vec::new(alloc);
+    let mut making = Making::new();
     'rows: for row in rows {
-        making.take(row)?;
+        take_row(&mut told, &mut making, row)?;
     }
-    Ok(making.finish())
+    Ok(PageReport {
+        told: List::from_vec(told),
+        failed: making.failed(),
+    })
 }
 
 /// What each read is told by the last page before it, and the first read whose true time breaks what the page promises.

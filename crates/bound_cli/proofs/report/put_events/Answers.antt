@@ -1,5 +1,5 @@
 use Rattle.std.proofs.Common.{◌≡◌, ◌++◌, ◌+◌, [], ℕ, List, drop, arith, ap, sym, ◌∙◌, append_assoc}
-use Rattle.std.specs.String.{string_bytes}
+use Rattle.std.specs.Prelude.{vec_items}
 use Rattle.std.proofs.lemmas.List.{drop_all, append-nil}
 use Rattle.abstract_run.specs.declared.event.Event.{Event}
 use Rattle.bound_cli.specs.Civil.{line_with}
@@ -18,10 +18,10 @@ events-preserved c =
     let at : lines_of times start (drop i events) ≡ line_with times (printed_of start event) ++ lines_of times start (drop (i + 1) events) =
     more ∙ ap (λ (e : Event). line_with times (printed_of start e) ++ lines_of times start (drop (i + 1) events)) (sym c.event-item.is) in
     rw (c.in_ok-put_line_with.ensures, c.printed.ensures)
-    (append_assoc (string_bytes c.events.text) (line_with times (printed_of start event)) (lines_of times start (drop (i + 1) events))
-    ∙ ap (λ (lines : List ℕ). string_bytes c.events.text ++ lines) (sym at) ∙ c.events.invariant)
+    (append_assoc (vec_items c.events.text) (line_with times (printed_of start event)) (lines_of times start (drop (i + 1) events))
+    ∙ ap (λ (lines : List ℕ). vec_items c.events.text ++ lines) (sym at) ∙ c.events.invariant)
 
 pub returns : goal.returns
 returns c =
     let over : drop c.events.event-index c.args.events.now ≡ [] = drop_all c.events.event-index c.args.events.now (omega (arith, c.events-test.false)) in
-    sym (append-nil (string_bytes c.events.text)) ∙ rw (over, lines_of-none) at c.events.invariant
+    sym (append-nil (vec_items c.events.text)) ∙ rw (over, lines_of-none) at c.events.invariant

@@ -1,6 +1,6 @@
 use Rattle.std.proofs.Common.{◌≡◌, ◌++◌, OnOk, ℕ, List, FitsSigned, true≢false, sym, subst, ap, ◌∙◌}
 use Rattle.std.specs.Int.{w128}
-use Rattle.std.specs.String.{string_bytes}
+use Rattle.std.specs.Prelude.{vec_items}
 use Rattle.std.proofs.lemmas.Int.{to_z-of_z}
 use Rattle.std.proofs.lemmas.List.{append-nil}
 use Rattle.civil_time.specs.Civil.{IsInstant}
@@ -13,7 +13,7 @@ returns-then-is_instant c =
     let fits : FitsSigned w128 n = c.ranges.nanoseconds in
     let decides = simp to_z-of_z at c.is_instant.ensures in
     let shown = simp to_z-of_z at c.put_shown.ensures in
-    subst (λ (told : List ℕ). OnOk c.put_shown.result (string_bytes c.put_shown.new.text ≡ string_bytes c.args.text.now ++ told)) (sym (text_inside n (decides.0 c.if-is_instant.true))) shown
+    subst (λ (told : List ℕ). OnOk c.put_shown.result (vec_items c.put_shown.new.text ≡ vec_items c.args.text.now ++ told)) (sym (text_inside n (decides.0 c.if-is_instant.true))) shown
 
 pub returns-else-is_instant : goal.returns-else-is_instant
 returns-else-is_instant c =
@@ -21,4 +21,4 @@ returns-else-is_instant c =
     let fits : FitsSigned w128 n = c.ranges.nanoseconds in
     let decides = simp to_z-of_z at c.is_instant.ensures in
     let outside : ¬ (IsInstant n) = λ inside. true≢false (sym (decides.1 inside) ∙ c.if-is_instant.false) in
-    sym (ap (λ (told : List ℕ). string_bytes c.args.text.now ++ told) (text_outside n outside) ∙ append-nil (string_bytes c.args.text.now))
+    sym (ap (λ (told : List ℕ). vec_items c.args.text.now ++ told) (text_outside n outside) ∙ append-nil (vec_items c.args.text.now))

@@ -32,8 +32,8 @@ returns-in_default-mono_row c course shows = no_early c.args.trace.now course c.
     let row = row_of_early c.args.trace.now course c.args.seen after causality c.args.progress.now.point (slice_index_or c.args.numbers 2 0) (slice_index_or c.args.numbers 3 0) c.in-Some-found.point c.in-Some-found.replied shows.point_is (is.as_of_is ∙ ap (λ (n : ℕ). pos n) (sym is.nanos_is)) (sym is.mono_is) found early in
     c.in_default-mono_row.ensures after.row (c.later_of.ensures.least after.row row.0 row.1) (subst (λ (rows : List ClockRow). after.row ≤ length rows) (sym c.as_slice.ensures) early.row.not_past) (subst (λ (rows : List ClockRow). HasMonoAt rows (slice_index_or c.args.numbers 3 0) after.row) (sym c.as_slice.ensures) row.2))
 
-pub returns-in-Some-2 : goal.returns-in-Some-2
-returns-in-Some-2 c course shows =
+pub returns-in-Some-after_answer : goal.returns-in-Some-after_answer
+returns-in-Some-after_answer c course shows =
     let found = c.in-Some-found.ensures course (shows.entries_are ∙ sym c.as_slice-entries.ensures.value) shows.before_is in
     let at : RowFound c.args.trace.now c.args.seen.row c.in-Some-found.replied (slice_index_or c.args.numbers 3 0) c.in-Some-mono_row.row = record {
       first_kept = omega (arith, c.later_of.ensures.first, c.in-Some-mono_row.ensures.not_before);
@@ -45,10 +45,10 @@ returns-in-Some-2 c course shows =
     record {
       page = 0;
       may = early_found c.args.trace.now course c.args.seen c.in-Some.as_of (slice_index_or c.args.numbers 2 0) (slice_index_or c.args.numbers 3 0) c.args.progress.now.point c.in-Some-found.point c.in-Some-found.replied c.in-Some-mono_row.row shows.point_is c.in-Some.ensures.found.1 c.in-Some.ensures.found.0 found at;
-      begins = rw c.in-Some-2.is at c.in_ok-later.ensures.found;
+      begins = rw c.in-Some-after_answer.is at c.after_answer.ensures.found;
     }
 
 pub returns-in-None : goal.returns-in-None
 returns-in-None c course shows = no_early c.args.trace.now course c.args.call c.args.seen c.args.text.now (λ causality after later early begins.
     let is = early_reads c.args.trace.now course c.args.call c.args.seen after causality c.args.numbers c.args.text.now later c.requires.numbers (search rules) (search rules) c.requires.clock c.requires.row (subst (λ (es : List Entry). All EntryFits es) (sym shows.entries_are) c.requires.entries) early begins in
-    (rw c.in-None.is at c.in_ok-later.ensures.other) later (subst (λ (e : Causality). c.args.text.now ≡ answered_line c.args.call.client c.args.call.number 0 (Early e) ++ later) (same_causality causality c.in-Some.as_of (slice_index_or c.args.numbers 3 0) (is.as_of_is ∙ (ap (λ (n : ℕ). pos n) (sym is.nanos_is) ∙ sym c.in-Some.ensures.found.1)) (sym is.mono_is)) begins))
+    (rw c.in-None.is at c.after_answer.ensures.other) later (subst (λ (e : Causality). c.args.text.now ≡ answered_line c.args.call.client c.args.call.number 0 (Early e) ++ later) (same_causality causality c.in-Some.as_of (slice_index_or c.args.numbers 3 0) (is.as_of_is ∙ (ap (λ (n : ℕ). pos n) (sym is.nanos_is) ∙ sym c.in-Some.ensures.found.1)) (sym is.mono_is)) begins))

@@ -51,4 +51,4 @@ returns-in_default-busy_point c course point = no_busy c.args.trace.now course c
 pub returns-in-None : goal.returns-in-None
 returns-in-None c course point = no_busy c.args.trace.now course c.args.call c.args.seen c.args.text.now (λ first last after later busy begins.
     let is = read c.args.trace.now course c.args.call c.args.seen after c.args.numbers c.args.text.now later first last c.requires.numbers (search rules) (search rules) (search rules) busy begins in
-    (rw c.in-None.is at c.in_ok-later.ensures.other) later (rw (c.in-Ok.ensures.1 ∙ is.first_is, c.in-Ok-try_from.ensures.1 ∙ is.last_is) begins))
+    (rw c.in-None.is at c.after_answer.ensures.other) later (rw (c.in-Ok.ensures.1 ∙ is.first_is, c.in-Ok-try_from.ensures.1 ∙ is.last_is) begins))

@@ -5,7 +5,7 @@ use Rattle.report_audit.proofs.failed_answers.nothing_answer.Goals as goal
 
 pub returns-in-None : goal.returns-in-None
 returns-in-None c trace course page NotInitialized after later kind may begins =
-    (rw c.in-None.is at c.in_ok-later.ensures.other) later (begins ∙ ap (λ (line : List ℕ). line ++ later) (nothing_on c.args.call.client c.args.call.number page))
+    (rw c.in-None.is at c.after_answer.ensures.other) later (begins ∙ ap (λ (line : List ℕ). line ++ later) (nothing_on c.args.call.client c.args.call.number page))
 returns-in-None c trace course page (Time timed) after later kind may begins = kind
 returns-in-None c trace course page (Busy tries first last) after later kind may begins = kind
 returns-in-None c trace course page (PageBusy first last) after later kind may begins = kind

@@ -35,4 +35,4 @@ returns-in_default-page_after c trace course knows = no_page_busy trace course c
 pub returns-in-None : goal.returns-in-None
 returns-in-None c trace course knows = no_page_busy trace course c.args.call c.args.seen c.args.text.now (λ first last after later busy begins.
     let is = read trace c.args.call c.args.seen after c.args.numbers c.args.text.now later first last c.requires.numbers (search rules) (search rules) busy begins in
-    (rw c.in-None.is at c.in_ok-later.ensures.other) later (rw (c.in-Ok.ensures.1 ∙ is.0, c.in-Ok-try_from.ensures.1 ∙ is.1) begins))
+    (rw c.in-None.is at c.after_answer.ensures.other) later (rw (c.in-Ok.ensures.1 ∙ is.0, c.in-Ok-try_from.ensures.1 ∙ is.1) begins))

@@ -28,4 +28,4 @@ returns-in_default-page_after c trace knows first last later fails begins =
 pub returns-in-None : goal.returns-in-None
 returns-in-None c trace knows first last later fails begins =
     let is = read c.args.poll first last c.six_numbers-numbers.result c.args.text.now later c.six_numbers-numbers.ensures (search rules) fails.first_fits fails.last_fits begins in
-    (rw c.in-None.is at c.in_ok-later.ensures.other) later (rw (c.in-Ok.ensures.1 ∙ is.0, c.in-Ok-try_from.ensures.1 ∙ is.1) begins)
+    (rw c.in-None.is at c.after_line.ensures.other) later (rw (c.in-Ok.ensures.1 ∙ is.0, c.in-Ok-try_from.ensures.1 ∙ is.1) begins)

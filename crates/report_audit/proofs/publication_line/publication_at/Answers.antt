@@ -18,8 +18,8 @@ returns-then-not-rows_fit c course life row shows past heard position page p lat
     let place : RowsFit c.args.progress.now.row c.args.progress.now.page (length c.as_slice-clock.result.now) c.args.known.now.pages.most c.in-Some.asked c.in-Some.page c.in-Some.replied = rw (c.in-Some.ensures.found.0 ∙ reads.reads.asked_is, c.in-Some.ensures.found.1 ∙ reads.reads.page_is, c.in-Some.ensures.found.2 ∙ reads.reads.replied_is, sym shows.row_is, sym shows.page_is) reads.place in
     search (rules, place)
 
-pub returns-in-Some-2 : goal.returns-in-Some-2
-returns-in-Some-2 c course life row shows past heard =
+pub returns-in-Some-after_line : goal.returns-in-Some-after_line
+returns-in-Some-after_line c course life row shows past heard =
     let polled : Polled c.args.trace.now course life row c.in-Some.asked c.in-Some.page c.poll_at-rec.result.0 c.poll_at-rec.result.1 c.poll_at-rec.new.daemon = c.poll_at-rec.ensures.polled c.args.trace.now course life row c.in-Some.page (record {
       clock_is = sym c.as_slice-clock.ensures;
       number_is = ap (λ (n : ℕ). n + 1) shows.polled;
@@ -28,10 +28,10 @@ returns-in-Some-2 c course life row shows past heard =
       shows = past;
     }) in
     let place : RowsFit c.args.progress.now.row c.args.progress.now.page (length c.as_slice-clock.result.now) c.args.known.now.pages.most c.in-Some.asked c.in-Some.page c.in-Some.replied = search rules in
-    subst (λ (e : Entry). Publishes c.args.trace.now course life row c.args.text.now e c.poll_at-rec.new.daemon c.in-Some-2.later.now) (sym c.entry_told-entry.ensures)
-    (published_found c.args.trace.now course life row c.args.progress.now c.poll_at-rec.new.daemon (length c.as_slice-clock.result.now) c.args.known.now.pages.most (c.args.progress.now.point / 2 + 1) c.in-Some.page (c.args.progress.now.polled + 1) c.generation.result c.in-Some.asked c.in-Some.replied c.poll_at-rec.result.1 c.poll_at-rec.result.0 c.args.text.now c.in-Some-2.later.now
+    subst (λ (e : Entry). Publishes c.args.trace.now course life row c.args.text.now e c.poll_at-rec.new.daemon c.in-Some-after_line.later.now) (sym c.entry_told-entry.ensures)
+    (published_found c.args.trace.now course life row c.args.progress.now c.poll_at-rec.new.daemon (length c.as_slice-clock.result.now) c.args.known.now.pages.most (c.args.progress.now.point / 2 + 1) c.in-Some.page (c.args.progress.now.polled + 1) c.generation.result c.in-Some.asked c.in-Some.replied c.poll_at-rec.result.1 c.poll_at-rec.result.0 c.args.text.now c.in-Some-after_line.later.now
     shows (ap (λ (rows : List ClockRow). length rows) (sym c.as_slice-clock.ensures)) c.requires.knows.pages.most_is place polled c.poll_at-rec.ensures.base refl refl c.generation.ensures.value
-    (rw (c.in-Some-2.is, c.line_told-line.ensures) at c.in_ok-later.ensures.found))
+    (rw (c.in-Some-after_line.is, c.line_told-line.ensures) at c.after_line.ensures.found))
 
 pub returns-in-None : goal.returns-in-None
 returns-in-None c course life row shows past heard position page p later is begins =
@@ -46,4 +46,4 @@ returns-in-None c course life row shows past heard position page p later is begi
     (omega (arith, shows.point_is, c.requires.point)) (omega (arith, shows.polled, c.requires.polled)) (ap (λ (rows : List ClockRow). length rows) (sym c.as_slice-clock.ensures)) c.requires.rows c.requires.knows.pages.most_is c.requires.knows.most is begins in
     let line = one_publication c.args.trace.now course life row c.args.progress.now c.poll_at-rec.new.daemon position (c.args.progress.now.point / 2 + 1) page c.in-Some.page (c.args.progress.now.polled + 1) c.generation.result c.in-Some.asked c.in-Some.replied c.poll_at-rec.result.1 c.poll_at-rec.result.0 p
     shows is polled (c.in-Some.ensures.found.0 ∙ reads.reads.asked_is) (c.in-Some.ensures.found.1 ∙ reads.reads.page_is) (c.in-Some.ensures.found.2 ∙ reads.reads.replied_is) refl refl c.generation.ensures.value in
-    (rw (c.in-None.is, c.line_told-line.ensures) at c.in_ok-later.ensures.other) later (begins ∙ ap (λ (l : List ℕ). l ++ later) line)
+    (rw (c.in-None.is, c.line_told-line.ensures) at c.after_line.ensures.other) later (begins ∙ ap (λ (l : List ℕ). l ++ later) line)

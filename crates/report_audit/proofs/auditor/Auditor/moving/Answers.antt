@@ -27,4 +27,4 @@ returns c known course counts holds =
       counts_are = holds.counts_are;
     })
     tt
-    (rw c.in-Some.is at c.in_ok-later.ensures.found)
+    (rw c.in-Some.is at c.after_line.ensures.found)

@@ -25,4 +25,4 @@ returns c known course counts holds =
       counts_are = holds.counts_are;
     })
     (due_moving known c.moves.result (is_move c.args.trace.now course) c.due_opened-due.result c.due_opened-due.ensures (c.moves.ensures ∙ move_alike c.args.trace.now.layout (slice_index c.args.trace.now.image 1) c.args.self.now.progress.polled course.polled c.start_at-start.result (start_found c.args.trace.now course) (sym shows.polled) start))
-    (rw c.in-Some.is at c.in_ok-later.ensures.found)
+    (rw c.in-Some.is at c.after_line.ensures.found)

@@ -20,4 +20,4 @@ returns c course counts row holds is stop no_skip =
     taken_stop c.args.trace.now c.args.known.now course counts c.args.text.now c.in-Some.later.now _ row (c.args.self.now.progress.polled + 1) c.args.stores (subst (λ (n : ℕ). slice_get c.args.trace.now.polls n ≡ Some row) (sym shows.polled) is) (ap (λ (n : ℕ). n + 1) (sym shows.polled)) c.requires.few stop
     (record { course_is = course_is; counts_are = holds.counts_are })
     (c.due_next-self.ensures (stopped course c.args.stores) course_is)
-    (rw c.in-Some.is at c.in_ok-later.ensures.found)
+    (rw c.in-Some.is at c.after_line.ensures.found)

@@ -4,7 +4,7 @@ use Rattle.std.specs.Option.{MatchOption}
 use Rattle.std.proofs.lemmas.Slice.Eq.{strip_prefix_is}
 use Rattle.std.proofs.lemmas.Bool.Decides.{Decides-eqb}
 use Rattle.lawful_report.specs.Lines.{line_text}
-use Rattle.report_audit.proofs.reading.after_line.Goals as goal
+use Rattle.lawful_report.proofs.line.after_line.Goals as goal
 
 found : (s p : List ℕ) (r : Option (Bor (List ℕ))) → MatchOption r ((rest : List ℕ) → s ≢ p ++ rest) (λ x. s ≡ p ++ x.now) → IfSome r (λ x. s ≡ p ++ x.now)
 found s p None m = tt
@@ -16,10 +16,10 @@ other s p (Some x) m = tt
 
 pub returns-clause-found : goal.returns-clause-found
 returns-clause-found c =
-    let is : c.as_slice.result.now ≡ line_text c.args.line.now = c.as_slice.ensures ∙ c.in_ok-printed.ensures in
+    let is : c.as_slice.result.now ≡ line_text c.args.line.now = c.as_slice.ensures ∙ c.made-made.ensures in
     found c.args.text.now (line_text c.args.line.now) c.strip_prefix.result (rw is at (strip_prefix_is Decides-eqb c.args.text.now c.as_slice.result.now c.strip_prefix.result c.strip_prefix.ensures.cases))
 
 pub returns-clause-other : goal.returns-clause-other
 returns-clause-other c =
-    let is : c.as_slice.result.now ≡ line_text c.args.line.now = c.as_slice.ensures ∙ c.in_ok-printed.ensures in
+    let is : c.as_slice.result.now ≡ line_text c.args.line.now = c.as_slice.ensures ∙ c.made-made.ensures in
     other c.args.text.now (line_text c.args.line.now) c.strip_prefix.result (rw is at (strip_prefix_is Decides-eqb c.args.text.now c.as_slice.result.now c.strip_prefix.result c.strip_prefix.ensures.cases))
