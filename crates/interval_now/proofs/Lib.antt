@@ -4,3 +4,4 @@ pub mod CallRun
 pub mod CallSteps
 pub mod Intervals
 pub mod Statuses
+pub mod GivenWords

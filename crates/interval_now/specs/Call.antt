@@ -6,6 +6,7 @@ use Rattle.clock_gate.specs.declared.act.Act.TheVariants.{Load, End}
 use Rattle.clock_gate.specs.declared.clock_row.ClockRow.{ClockRow}
 use Rattle.clock_gate.specs.declared.clock_row.Reading.{Reading}
 use Rattle.clock_gate.specs.declared.limits.TheConstants.{LAST_MOMENT, MOST_TRIES}
+use Rattle.clock_gate.specs.Acts.{after}
 use Rattle.clock_gate.specs.ClockRow.{reading_at}
 use Rattle.seqlock.specs.Tries.{SeqlockRead, started}
 use Rattle.seqlock.specs.Tries as tries
@@ -106,6 +107,13 @@ tried (Segment read) value = Segment (segment.given read value)
 tried (Clock generation rec) value = Clock generation rec
 tried (Page generation rec reading read) value = Page generation rec reading (page.given read value)
 tried (Done answer) value = Done answer
+
+-- the segment's tries in hand with these words more
+abbrev pub words_given : Stage → List ℕ → Stage
+words_given (Segment read) words = Segment (after segment.act_of segment.given read words)
+words_given (Clock generation rec) words = Clock generation rec
+words_given (Page generation rec reading read) words = Page generation rec reading read
+words_given (Done answer) words = Done answer
 
 -- what follows on tries by what they have come to, and on the clock
 abbrev pub followed : List ClockRow → ℕ → Bool → Stage → ℕ → Stage

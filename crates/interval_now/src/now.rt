@@ -1,14 +1,15 @@
 //! A client call, as a step machine.
-ghost use Rattle.std.specs.Prelude.{◌≡◌, ◌≢◌, ◌≤◌, ◌<◌, ◌+◌, ◌*◌, length, IfOk, IfSome, IsNone, IsTrue, IsFalse, Some, None, ◌↔◌};
+ghost use Rattle.std.specs.Prelude.{◌≡◌, ◌≢◌, ◌≤◌, ◌<◌, ◌+◌, ◌*◌, ℕ, List, length, IfOk, IfSome, IsNone, IsTrue, IsFalse, Some, None, ◌↔◌};
 ghost use Rattle.clock_gate.specs.declared.limits.TheConstants.{LAST_MOMENT, MOST_TRIES, MOST_HOST_ROWS};
-ghost use Rattle.clock_gate.specs.Acts.{IsLoadWithin};
+ghost use Rattle.clock_gate.specs.Acts.{IsLoadWithin, after};
 ghost use Rattle.clock_gate.specs.ClockRow.{IsClock};
+ghost use Rattle.clock_gate.specs.declared.clock_row.ClockRow.{ClockRow};
 ghost use Rattle.seqlock.specs.Tries.{SeqlockRead};
-ghost use Rattle.shm_reader.specs.SegmentTries.{IsGoodLoad};
+ghost use Rattle.shm_reader.specs.SegmentTries.{IsGoodLoad, AreGoodLoads};
 ghost use Rattle.shm_reader.specs.SegmentTries as segment;
 ghost use Rattle.vmclock_page.specs.PageRead as page;
 ghost use Rattle.interval_now.specs.Interval.{KeepsEnds};
-ghost use Rattle.interval_now.specs.Call.{started_call, timed, answer_of, act_of, act_at, end_of, given, after_segment, after_clock, after_page, stage_given, tried, followed, steps_left, IsEarly, IsRowNumber, IsRowAt, TriesOn, HasEnded, AnswerKeepsEnds, StageKeepsEnds};
+ghost use Rattle.interval_now.specs.Call.{started_call, timed, answer_of, act_of, act_at, end_of, given, after_segment, after_clock, after_page, stage_given, tried, words_given, followed, steps_at, steps_left, IsStage, IsEarly, IsRowNumber, IsRowAt, TriesOn, HasEnded, AnswerKeepsEnds, StageKeepsEnds};
 
 use crate::answers::{Answer, Causality, Interval, Timed};
 use crate::rule::interval;
@@ -247,6 +248,24 @@ fn give_stage(stage: &mut Stage, tries: u16, support: bool, value: u64, clock: &
     }
 }
 
+// The segment's tries take words 2 to 9.
+fn give_segment(stage: &mut Stage, words: &[u64; 8])
+    requires stage { IsStage stage.old }
+    requires wanted { act_at stage.old ≡ Act.Load 2 }
+    requires good { AreGoodLoads words.now }
+    ensures value { stage.new ≡ words_given stage.old words.now }
+    ensures stage { IsStage stage.new }
+    ensures early { IsEarly stage.new }
+    ensures ends { StageKeepsEnds stage.new }
+    ensures next { act_at stage.new ≡ Act.Load 1 }
+    ensures nearer { (most : ℕ) → steps_at most stage.new < steps_at most stage.old }
+{
+    match stage {
+        Stage::Segment(reader) => reader.give_words(words),
+        Stage::Clock { .. } | Stage::Page { .. } | Stage::Done(_) => unreachable!(),
+    }
+}
+
 impl NowMachine {
     /// A call with so many tries of each read, from 1 to 1,000, and with a page or without one.
     pub fn new(tries: u16, support: bool) -> NowMachine
@@ -286,6 +305,27 @@ impl NowMachine {
         ensures nearer { steps_left self.new < steps_left self.old }
     {
         give_stage(&mut self.stage, self.tries, self.support, value, clock);
+    }
+
+    /// Whether words 2 to 9 come next, all eight.
+    pub fn wants_words(&self) -> bool
+        ensures { IsTrue result ↔ (act_of self.now ≡ Act.Load 2) }
+    {
+        match &self.stage {
+            Stage::Segment(reader) => reader.wants_words(),
+            Stage::Clock { .. } | Stage::Page { .. } | Stage::Done(_) => false,
+        }
+    }
+
+    /// Takes the values that the loads of words 2 to 9 found.
+    pub fn give_words(&mut self, words: &[u64; 8])
+        requires wanted { act_of self.old ≡ Act.Load 2 }
+        requires good { AreGoodLoads words.now }
+        ensures value { (clock : List ClockRow) → self.new ≡ after act_of (given clock) self.old words.now }
+        ensures next { act_of self.new ≡ Act.Load 1 }
+        ensures nearer { steps_left self.new < steps_left self.old }
+    {
+        give_segment(&mut self.stage, words);
     }
 
     /// Whether no load comes next: exactly where `next` is `End`.

@@ -65,7 +65,10 @@ fn growth(elapsed: u64, drift: u32) -> u64
     ensures value { result ≡ growth_of elapsed drift }
     ensures high { result ≤ LAST_MOMENT }
 {
-    (u128::from(elapsed) * u128::from(drift)).div_ceil(BILLION) as u64
+    match elapsed.checked_mul(u64::from(drift)) {
+        Some(product) => product.div_ceil(BILLION as u64),
+        None => (u128::from(elapsed) * u128::from(drift)).div_ceil(BILLION) as u64,
+    }
 }
 
 fn half_width(rec: &Record, mono: u64) -> i128

@@ -1,5 +1,6 @@
 pub mod Allowed
 pub mod Stepping
+pub mod LoadedWords
 pub mod Opening
 pub mod PageSeen
 pub mod Stores

@@ -1,5 +1,5 @@
 -- The rule as the table has it, and what a step tells.
-use Rattle.std.specs.Prelude.{◌≡◌, ℕ, ◌==◌, nat_lt, Bool, true, false, is_some}
+use Rattle.std.specs.Prelude.{◌≡◌, ℕ, ◌+◌, ◌==◌, nat_lt, List, [], ◌∷◌, Bool, true, false, is_some}
 use Rattle.atomic_table.specs.Table.{State, Me, Step}
 use Rattle.atomic_table.specs.Seated.{TableId}
 use Rattle.segment_views.specs.declared.setup.Setup.{Setup}
@@ -25,6 +25,11 @@ TellsLoad first i v found left w =
     (Either (i == 23) (TellsClock first v found left w)
     (Either (i == 0) (TellsZero first v found left w)
     (Either (nat_lt i 10) (TellsData first i v found left w) (TellsPlain first i v found left w)))))
+
+-- later loads one after another, from this word on, that found these values
+abbrev pub TellsLoads : ℕ → List ℕ → SeatView → SeatView → Type 0
+TellsLoads word [] v w = v ≡ w
+TellsLoads word (found ∷ values) v w = (next : SeatView) × TellsLoad false word v found found next × TellsLoads (word + 1) values next w
 
 -- word 11 is loaded only where there is a page
 abbrev pub MayLoadWord : ℕ → SeatView → Type 0

@@ -4,7 +4,7 @@ ghost use Rattle.clock_gate.specs.declared.limits.TheConstants.{MOST_HOST_ROWS, 
 ghost use Rattle.clock_gate.specs.ClockRow.{IsClock};
 ghost use Rattle.segment_views.specs.Seats.{part_of};
 ghost use Rattle.segment_views.specs.Steps.{calls_of};
-ghost use Rattle.segment_rule.specs.Ruled.{TableView, MayLoadWord, TellsLoad};
+ghost use Rattle.segment_rule.specs.Ruled.{TableView, MayLoadWord, TellsLoad, TellsLoads};
 ghost use Rattle.interval_now.specs.Call.{Agrees};
 ghost use Rattle.segment_rule.specs.Calls.{ClientState, IsSameSeat, Nows};
 
@@ -37,6 +37,22 @@ impl Model for ClientSeat {
     ghost view = { λ s. client_state s.seat.table_id s.seat.me.0 s.is_first s.splits s.in_hand s.begun s.tries s.machine };
 
     ghost invariant = { λ s. (s.seat.me.1 ≡ []) × (s.seat.me.0.seated ≡ true) × (s.support ≡ is_some s.seat.me.0.setup.page) × Holds s.in_hand s.begun s.tries s.machine s.seat.me.0 × (s.seat.me.0.setup.clients ≤ MOST_CLIENTS) };
+}
+
+// Loads words 2 to 9, one after another.
+fn load_words(table: &HostTable, seat: &mut Place) -> [u64; 8]
+    requires table { seat.old.table_id ≡ table.now.id }
+    requires seated { seat.old.me.0.seated ≡ true }
+    ensures table { seat.new.table_id ≡ seat.old.table_id }
+    ensures slots { seat.new.me.1 ≡ seat.old.me.1 }
+    ensures told { TellsLoads 2 result seat.old.me.0 seat.new.me.0 }
+    ensures eight { length result ≡ 8 }
+{
+    let mut words = [0; 8];
+    'loading: for i in 0..8 {
+        words[i] = table.table.shared.load::<Load>(seat, 2 + i);
+    }
+    words
 }
 
 impl ClientSeat {
@@ -126,7 +142,7 @@ impl ClientSeat {
     {
         self.begin(table, tries);
         'calling: loop {
-            if let Some(answer) = self.step(table, clock) {
+            if let Some(answer) = self.stride(table, clock) {
                 return answer;
             }
         }
@@ -187,6 +203,52 @@ impl ClientSeat {
         let end = self.machine.end();
         self.in_hand = end.is_none();
         end
+    }
+
+    // The same, with words 2 to 9 at once.
+    fn farther(&mut self, table: &HostTable, clock: &[ClockRow]) -> Option<Answer>
+        requires table { self.old.table ≡ table.now.id }
+        requires clock { length clock.now ≡ self.old.view.setup.rows }
+        requires moments { IsClock clock.now }
+        requires reading { Agrees clock.now self.old.reading }
+        requires hand { (self.old.in_hand ≡ true) × (self.old.begun ≡ true) }
+        ensures same { IsSameSeat self.old self.new }
+        ensures tries { self.new.tries ≡ self.old.tries }
+        ensures going { IfNone result ((self.new.in_hand ≡ true) × (self.new.begun ≡ true)) }
+        ensures nearer { IfNone result (self.new.left < self.old.left) }
+        ensures reading { IfNone result (Agrees clock.now self.new.reading) }
+        ensures ended { IfSome result (λ a. (self.new.in_hand ≡ false) × Nows clock.now self.old.tries a self.new.view) }
+        ensures calls { self.new.view.calls ≡ self.old.view.calls }
+    {
+        if !self.machine.wants_words() {
+            return self.later(table, clock);
+        }
+        let words = load_words(table, &mut self.seat);
+        self.machine.give_words(&words);
+        None
+    }
+
+    // As `step`, with words 2 to 9 at once.
+    fn stride(&mut self, table: &HostTable, clock: &[ClockRow]) -> Option<Answer>
+        requires table { self.old.table ≡ table.now.id }
+        requires clock { length clock.now ≡ self.old.view.setup.rows }
+        requires moments { IsClock clock.now }
+        requires hand { self.old.in_hand ≡ true }
+        requires reading { Agrees clock.now self.old.reading }
+        ensures same { IsSameSeat self.old self.new }
+        ensures tries { self.new.tries ≡ self.old.tries }
+        ensures going { IfNone result ((self.new.in_hand ≡ true) × (self.new.begun ≡ true)) }
+        ensures nearer { IfNone result (self.new.left < self.old.left) }
+        ensures reading { IfNone result (Agrees clock.now self.new.reading) }
+        ensures ended { IfSome result (λ a. (self.new.in_hand ≡ false) × Nows clock.now self.old.tries a self.new.view) }
+        ensures first { self.old.begun ≡ false → self.new.view.calls ≡ calls_of self.old.view }
+        ensures later { self.old.begun ≡ true → self.new.view.calls ≡ self.old.view.calls }
+    {
+        if self.begun {
+            self.farther(table, clock)
+        } else {
+            self.first(table, clock)
+        }
     }
 
     /// Makes one word step of the call in hand, and answers where the step ends it.

@@ -1,2 +1,3 @@
+pub mod GivenWords
 pub mod SegmentRun
 pub mod Stands

@@ -51,7 +51,7 @@ module _ (tries left first last : ℕ) (loads : List ℕ) where
   abbrev pub at : ℕ → SeqlockRead
   at loaded = stands tries left first last loaded loads
 
-  at_front : (loaded : ℕ) → loaded ≢ 0 → length loads ≡ 10 → (at loaded).values ≡ slice_index loads 0 ∷ take (loaded - 1) (drop 1 loads)
+  pub at_front : (loaded : ℕ) → loaded ≢ 0 → length loads ≡ 10 → (at loaded).values ≡ slice_index loads 0 ∷ take (loaded - 1) (drop 1 loads)
   at_front zero some len = absurd (some refl)
   at_front (suc m) some len =
       let less : suc m - 1 ≡ m = omega arith in

@@ -1,10 +1,10 @@
 //! The step machine that reads the segment.
-ghost use Rattle.std.specs.Prelude.{◌≡◌, ◌≢◌, ◌≤◌, ◌<◌, [], ◌∷◌, length, take, drop, IsNone, ◌↔◌};
+ghost use Rattle.std.specs.Prelude.{◌≡◌, ◌≢◌, ◌≤◌, ◌<◌, [], ◌∷◌, length, take, drop, IsNone, IsTrue, ◌↔◌};
 ghost use Rattle.clock_gate.specs.declared.limits.TheConstants.{MOST_TRIES};
-ghost use Rattle.clock_gate.specs.Acts.{IsLoadWithin};
+ghost use Rattle.clock_gate.specs.Acts.{IsLoadWithin, after};
 ghost use Rattle.segment_layout.specs.Words.{AreGoodWords};
 ghost use Rattle.seqlock.specs.Tries.{started, failed_try, with_value, IsStage};
-ghost use Rattle.shm_reader.specs.SegmentTries.{segment_lock, record_in, act_of, given, end_of, steps_left, IsGoodLoad};
+ghost use Rattle.shm_reader.specs.SegmentTries.{segment_lock, record_in, act_of, given, end_of, steps_left, IsGoodLoad, AreGoodLoads};
 ghost use Rattle.generation_word.specs.Header.{generation_in};
 
 use crate::seen::Seen;
@@ -97,6 +97,31 @@ impl SegmentReader {
             9 => self.give_last(value),
             _ => self.keep(value),
         }
+    }
+
+    /// Whether words 2 to 9 come next, all eight.
+    pub fn wants_words(&self) -> bool
+        ensures { IsTrue result ↔ (act_of self.now ≡ Act.Load 2) }
+    {
+        if self.loaded != 1 {
+            return false;
+        }
+        generation_in(self.loads[0]) != 0
+    }
+
+    /// Takes the values that the loads of words 2 to 9 found.
+    pub fn give_words(&mut self, words: &[u64; 8])
+        requires wanted { act_of self.old ≡ Act.Load 2 }
+        requires good { AreGoodLoads words.now }
+        ensures value { self.new ≡ after act_of given self.old words.now }
+        ensures stage { IsStage segment_lock self.new }
+        ensures next { act_of self.new ≡ Act.Load 1 }
+        ensures nearer { steps_left self.new < steps_left self.old }
+    {
+        let header = self.loads[0];
+        let [w2, w3, w4, w5, w6, w7, w8, w9] = *words;
+        self.loads = [header, w2, w3, w4, w5, w6, w7, w8, w9, 0];
+        self.loaded = 9;
     }
 
     // The first value of a try: an odd generation fails it.
