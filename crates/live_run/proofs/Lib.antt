@@ -1,0 +1,7 @@
+pub mod DaemonLines
+pub mod HostRows
+pub mod Turns
+pub mod Dealing
+pub mod Plans
+pub mod Gathering
+pub mod Begins

@@ -1,0 +1,5 @@
+pub mod Dealt
+pub mod Gathered
+pub mod Host
+pub mod Publishing
+pub mod Work
