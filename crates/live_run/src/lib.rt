@@ -6,6 +6,7 @@
 //! that the report of these lines is lawful. The files of `specs/` say what each worker begins with and what it leaves.
 #![tactic(auto)]
 
+mod beside;
 mod clients;
 mod feeding;
 mod gather;
@@ -13,8 +14,9 @@ mod host;
 mod lines;
 mod poller;
 mod publisher;
+mod room;
 mod run;
 mod workers;
 
 pub use live_report::Line;
-pub use run::{Ran, run_workers};
+pub use run::{Ran, run_trace, run_workers};

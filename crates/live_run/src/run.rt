@@ -1,27 +1,25 @@
-ghost use Rattle.std.specs.Prelude.{◌≡◌, ◌≤◌, ◌<◌, true, false, length, map, All, IfOk, vec_len};
-ghost use denote.Param.Send.{IsSync};
+ghost use Rattle.std.specs.Prelude.{◌≡◌, ◌≤◌, ◌<◌, true, false, length, map, All, IfOk};
 ghost use Rattle.clock_gate.specs.declared.limits.TheConstants.{MOST_CLIENTS};
-ghost use Rattle.abstract_run.specs.Given.{CanRun};
+ghost use Rattle.generation_word.specs.Layout.{period_of};
+ghost use Rattle.abstract_run.specs.Given.{IsGiven};
+ghost use Rattle.lawful_report.specs.Lawful.{IsLawfulReport};
 ghost use Rattle.live_report.specs.ClientCalls.{client_first};
 ghost use Rattle.live_report.specs.DaemonCalls.{daemon_first};
+ghost use Rattle.live_report.specs.LiveReport.{report_of};
 ghost use Rattle.live_report.specs.LiveRun.{setup_of, host_first, IsRunOf};
-ghost use Rattle.live_run.specs.Host.{HostBegins, HostEnds};
-ghost use Rattle.live_run.specs.Publishing.{HasPublished, PublisherBegins, IsFed};
-ghost use Rattle.live_run.specs.Work.{IsWorker, WorkersDone};
+ghost use Rattle.live_run.specs.Room.{IsRoomFor};
 
-use crate::clients::ClientWorker;
-use crate::feeding::publish_fed;
+use crate::beside::all_run;
 use crate::gather::{Gathered, gather};
-use crate::host::host_all;
 use crate::publisher::Publisher;
-use crate::workers::{dealt, idle_workers, plans};
-use clock_gate::{ClockRow, Gate, List, Memory, Trace};
-use feed_queue::{FeedIn, FeedOut, FeedQueue};
-use live_report::Line;
+use crate::room::{Room, room_for};
+use crate::workers::dealt;
+use clock_gate::{Gate, List, Memory, Trace};
+use live_report::{Line, live_laws};
 use segment_rule::{ClientSeat, DaemonSeat, HostSeat, HostTable};
 use std::alloc::Global;
 use std::sync::Wait;
-use std::thread::{Threads, for_each_mut, join};
+use std::thread::Threads;
 
 /// What a run gave: its lines, and the seats that made it. The clients' stand in the order of their numbers.
 #[derive(Drop)]
@@ -32,116 +30,56 @@ pub struct Ran {
     pub clients: List<ClientSeat>,
 }
 
-fn clients_run<R: Threads + Wait + Sync, G: Gate + Sync>(
+// The run, in memory that was found before.
+fn run_in<R: Threads + Wait + Sync, G: Gate + Sync>(
     rt: &R,
-    table: &HostTable,
-    clock: &[ClockRow],
-    workers: &mut [ClientWorker],
-    gate: &G,
-)
-    requires some { 0 < length workers.old }
-    requires work { All (IsWorker table.now clock.now) workers.old }
-    ensures { WorkersDone clock.now workers.old workers.new }
-{
-    let threads = workers.len();
-    for_each_mut(
-        rt,
-        workers,
-        threads,
-        &|_, worker: &mut ClientWorker| worker.work(rt, table, clock, gate),
-    );
-}
-
-// All calls of all clients, by so many workers side by side.
-fn clients_all<R: Threads + Wait + Sync, G: Gate + Sync>(
-    rt: &R,
-    table: &HostTable,
-    clock: &[ClockRow],
-    workers: Vec<ClientWorker>,
-    gate: &G,
-) -> Vec<ClientWorker>
-    requires some { 0 < vec_len workers }
-    requires work { All (IsWorker table.now clock.now) workers.items }
-    ensures len { vec_len result ≡ vec_len workers }
-    ensures done { WorkersDone clock.now workers.items result.items }
-{
-    let mut workers = workers;
-    clients_run(rt, table, clock, workers.as_mut_slice(), gate);
-    workers
-}
-
-// The clients, and beside them the daemon.
-fn clients_and_daemon<R: Threads + Wait + Sync, G: Gate + Sync>(
-    rt: &R,
-    table: &HostTable,
     trace: &Trace,
-    queue: &FeedQueue,
-    input: FeedIn,
-    output: FeedOut,
-    publisher: Publisher,
-    workers: Vec<ClientWorker>,
-    gate: &G,
-) -> (Vec<ClientWorker>, Publisher)
-    requires fed { IsFed trace.now queue.now input output }
-    requires begins { PublisherBegins trace.now table.now publisher }
-    requires some { 0 < vec_len workers }
-    requires work { All (IsWorker table.now trace.now.clock) workers.items }
-    ensures done { WorkersDone trace.now.clock workers.items result.0.items }
-    ensures published { HasPublished trace.now table.now publisher result.1 }
-{
-    let clock = trace.clock.as_slice();
-    join(
-        rt,
-        move || -> Vec<ClientWorker>
-            requires { IsSync R.row × IsSync G.row × (0 < vec_len workers) × All (IsWorker table.now clock.now) workers.items }
-            ensures { WorkersDone clock.entry.now workers.items result.items }
-        { clients_all(rt, table, clock, workers, gate) },
-        move || -> Publisher
-            requires { IsSync R.row × IsSync G.row × IsFed trace.now queue.now input output × PublisherBegins trace.now table.now publisher }
-            ensures { HasPublished trace.entry.now table.entry.now publisher result }
-        { publish_fed(rt, table, trace, queue, input, output, publisher, gate) },
-    )
-}
-
-// The host, and beside it all others.
-fn all_run<R: Threads + Wait + Sync, G: Gate + Sync>(
-    rt: &R,
     table: &HostTable,
-    trace: &Trace,
-    queue: &FeedQueue,
-    input: FeedIn,
-    output: FeedOut,
     host: HostSeat,
-    publisher: Publisher,
-    workers: Vec<ClientWorker>,
+    daemon: DaemonSeat,
+    client: ClientSeat,
+    room: Room,
     gate: &G,
-) -> (HostSeat, (Vec<ClientWorker>, Publisher))
-    requires host { host.table ≡ table.now.id }
-    requires rows { HostBegins trace.now.host host.view }
-    requires fed { IsFed trace.now queue.now input output }
-    requires begins { PublisherBegins trace.now table.now publisher }
-    requires some { 0 < vec_len workers }
-    requires work { All (IsWorker table.now trace.now.clock) workers.items }
-    ensures host { result.0.table ≡ host.table }
-    ensures rows { HostEnds trace.now.host host.view result.0.view }
-    ensures done { WorkersDone trace.now.clock workers.items result.1.0.items }
-    ensures published { HasPublished trace.now table.now publisher result.1.1 }
+) -> Gathered
+    requires trace { IsGiven trace.now }
+    requires setup { table.now.setup ≡ setup_of trace.now }
+    requires host { (host.table ≡ table.now.id) × (host.view ≡ host_first table.now.setup) }
+    requires daemon { (daemon.table ≡ table.now.id) × (daemon.view ≡ daemon_first table.now.setup) }
+    requires client { (client.table ≡ table.now.id) × (client.view ≡ client_first table.now.setup) }
+    requires first { (client.is_first ≡ true) × (client.splits ≡ 0) × (client.in_hand ≡ false) }
+    requires room { IsRoomFor trace.now room }
+    ensures tables { (result.host.table ≡ table.now.id) × (result.daemon.table ≡ table.now.id) }
+    ensures clients { All (λ c. c.table ≡ table.now.id) result.clients.items }
+    ensures run { IsRunOf trace.now result.lines.items result.host.view result.daemon.view (map (λ c. c.view) result.clients.items) }
 {
-    join(
-        rt,
-        move || -> HostSeat
-            requires { IsSync G.row × (host.table ≡ table.now.id) × HostBegins trace.now.host host.view }
-            ensures { (result.table ≡ host.table) × HostEnds trace.entry.now.host host.view result.view }
-        { host_all(table, host, trace.host.as_slice(), gate) },
-        move || -> (Vec<ClientWorker>, Publisher)
-            requires { IsSync R.row × IsSync G.row × IsFed trace.now queue.now input output × PublisherBegins trace.now table.now publisher × (0 < vec_len workers) × All (IsWorker table.now trace.now.clock) workers.items }
-            ensures { WorkersDone trace.entry.now.clock workers.items result.0.items × HasPublished trace.entry.now table.entry.now publisher result.1 }
-        {
-            clients_and_daemon(
-                rt, table, trace, queue, input, output, publisher, workers, gate,
-            )
-        },
-    )
+    let Room {
+        plans,
+        workers,
+        lines,
+        seats,
+        queue,
+        input,
+        output,
+    } = room;
+    let publisher = Publisher {
+        seat: daemon,
+        polled: 0,
+        running: None,
+        base: 0,
+        lines,
+    };
+    let workers = dealt(table, trace, client, plans, workers);
+    let (host, (workers, publisher)) = all_run(
+        rt, table, trace, &queue, input, output, host, publisher, workers, gate,
+    );
+    let Publisher { seat, lines, .. } = publisher;
+    let gathered = Gathered {
+        host,
+        daemon: seat,
+        lines,
+        clients: seats,
+    };
+    gather(table, trace, workers, gathered)
 }
 
 /// Runs a trace's jobs on the shared words: the host does its rows in order, a poller reads the replies ahead and the daemon takes them
@@ -162,7 +100,7 @@ pub fn run_workers<R: Threads + Wait + Sync, G: Gate + Sync>(
     workers: u32,
     gate: &G,
 ) -> Result<Ran, Memory>
-    requires trace { CanRun trace.now }
+    requires trace { IsGiven trace.now }
     requires setup { table.now.setup ≡ setup_of trace.now }
     requires host { (host.table ≡ table.now.id) × (host.view ≡ host_first table.now.setup) }
     requires daemon { (daemon.table ≡ table.now.id) × (daemon.view ≡ daemon_first table.now.setup) }
@@ -176,49 +114,54 @@ pub fn run_workers<R: Threads + Wait + Sync, G: Gate + Sync>(
     ensures clients { IfOk result (λ ran. All (λ c. c.table ≡ table.now.id) ran.clients) }
     // Its lines are those of the calls that its seats made, in their order, and all have made all of theirs.
     ensures run { IfOk result (λ ran. IsRunOf trace.now ran.lines ran.host.view ran.daemon.view (map (λ c. c.view) ran.clients)) }
+    // So the report of its lines is lawful.
+    ensures lawful { length trace.now.polls < period_of trace.now.layout → IfOk result (λ ran. IsLawfulReport trace.now (report_of trace.now ran.lines)) }
 {
-    let polls = trace.polls.len();
-    let clients = trace.clients as usize;
-    let plans = plans(alloc, trace.calls.as_slice(), trace.clients)?;
-    let idle = idle_workers(alloc, workers.min(trace.clients), clients)?;
-    let mut lines = Vec::new(alloc);
-    lines.reserve(2 * polls + trace.calls.len())?;
-    let mut seats = Vec::new(alloc);
-    seats.reserve(clients)?;
-    let (queue, input, output) = FeedQueue::new(alloc, &trace.polls)?;
-    let publisher = Publisher {
-        seat: daemon,
-        polled: 0,
-        running: None,
-        base: 0,
-        lines,
-    };
-    let workers = dealt(table, trace, client, plans, idle);
-    let (host, (workers, publisher)) = all_run(
-        rt, table, trace, &queue, input, output, host, publisher, workers, gate,
-    );
-    let Publisher { seat, lines, .. } = publisher;
-    let gathered = gather(
-        table,
-        trace,
-        workers,
-        Gathered {
-            host,
-            daemon: seat,
-            lines,
-            clients: seats,
-        },
-    );
+    live_laws();
+    // All memory is taken here, where no seat is at hand.
+    let room = room_for(alloc, trace, workers)?;
     let Gathered {
         host,
         daemon,
         lines,
         clients,
-    } = gathered;
+    } = run_in(rt, trace, table, host, daemon, client, room, gate);
     Ok(Ran {
         lines: List::from_vec(lines),
         host,
         daemon,
         clients: List::from_vec(clients),
     })
+}
+
+/// Makes the table of a trace, and runs the trace on it as `run_workers` does.
+#[tactic(auto, using(crate::proofs::Begins::rows_some, crate::proofs::Begins::rows_few, crate::proofs::Begins::clients_some, crate::proofs::Begins::clients_few))]
+pub fn run_trace<R: Threads + Wait + Sync, G: Gate + Sync>(
+    rt: &R,
+    alloc: Global,
+    trace: &Trace,
+    workers: u32,
+    gate: &G,
+) -> Result<(HostTable, Ran), Memory>
+    requires trace { IsGiven trace.now }
+    requires some { 1 ≤ workers }
+    requires most { workers ≤ MOST_CLIENTS }
+    ensures table { IfOk result (λ r. r.0.setup ≡ setup_of trace.now) }
+    ensures seats { IfOk result (λ r. (r.1.host.table ≡ r.0.id) × (r.1.daemon.table ≡ r.0.id) × All (λ c. c.table ≡ r.0.id) r.1.clients) }
+    ensures run { IfOk result (λ r. IsRunOf trace.now r.1.lines r.1.host.view r.1.daemon.view (map (λ c. c.view) r.1.clients)) }
+    ensures lawful { length trace.now.polls < period_of trace.now.layout → IfOk result (λ r. IsLawfulReport trace.now (report_of trace.now r.1.lines)) }
+{
+    let rows = trace.clock.len() as u32;
+    let (table, host, daemon, client) = HostTable::new(
+        alloc,
+        trace.layout,
+        &trace.image,
+        trace.page,
+        rows,
+        trace.clients,
+    )?;
+    let ran = run_workers(
+        rt, alloc, trace, &table, host, daemon, client, workers, gate,
+    )?;
+    Ok((table, ran))
 }
