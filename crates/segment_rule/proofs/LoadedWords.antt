@@ -40,13 +40,14 @@ pub record Stays (v w : SeatView) : Type 0 where
   pub seated : w.seated ≡ v.seated
   pub setup : w.setup ≡ v.setup
   pub calls : w.calls ≡ v.calls
+  pub before : w.before ≡ v.before
 
 pub stays : (word : ℕ) (values : List ℕ) (v w : SeatView) → TellsLoads word values v w → Stays v w
-stays word [] v w same = subst (λ (x : SeatView). Stays v x) same (record { seated = refl; setup = refl; calls = refl })
+stays word [] v w same = subst (λ (x : SeatView). Stays v x) same (record { seated = refl; setup = refl; calls = refl; before = refl })
 stays word (value ∷ values) v w told =
     let l = loads_told false word value v told.0 told.1 in
     let rest = stays (word + 1) values told.0 w told.2 in
-    record { seated = rest.seated ∙ l.seated; setup = rest.setup ∙ l.setup; calls = rest.calls ∙ l.calls }
+    record { seated = rest.seated ∙ l.seated; setup = rest.setup ∙ l.setup; calls = rest.calls ∙ l.calls; before = rest.before ∙ l.before }
 
 -- the words are good where a record is known
 pub good_loaded : (word : ℕ) (values : List ℕ) (v w : SeatView) → TellsLoads word values v w → 2 ≤ word → word + length values ≤ 10 → 0 < length v.seen.history

@@ -219,6 +219,7 @@ impl ClientSeat {
         ensures reading { IfNone result (Agrees clock.now self.new.reading) }
         ensures ended { IfSome result (λ a. (self.new.in_hand ≡ false) × Nows clock.now self.old.tries a self.new.view) }
         ensures calls { self.new.view.calls ≡ self.old.view.calls }
+        ensures before { self.new.view.before ≡ self.old.view.before }
     {
         if !self.machine.wants_words() {
             return self.later(table, clock);
@@ -243,6 +244,8 @@ impl ClientSeat {
         ensures ended { IfSome result (λ a. (self.new.in_hand ≡ false) × Nows clock.now self.old.tries a self.new.view) }
         ensures first { self.old.begun ≡ false → self.new.view.calls ≡ calls_of self.old.view }
         ensures later { self.old.begun ≡ true → self.new.view.calls ≡ self.old.view.calls }
+        ensures before_first { self.old.begun ≡ false → self.new.view.before ≡ self.old.view.seen }
+        ensures before_later { self.old.begun ≡ true → self.new.view.before ≡ self.old.view.before }
     {
         if self.begun {
             self.farther(table, clock)

@@ -68,3 +68,6 @@ returns-clause-reading c = no_reading c.args.clock.now c.give_words.new.self.sta
 
 pub returns-clause-calls : goal.returns-clause-calls
 returns-clause-calls c = (same c).calls ∙ ap (λ x. x.view.calls) c.self.view_is
+
+pub returns-clause-before : goal.returns-clause-before
+returns-clause-before c = (same c).before ∙ ap (λ x. x.view.before) c.self.view_is
