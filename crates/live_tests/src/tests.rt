@@ -1,0 +1,184 @@
+ghost use Rattle.std.specs.Prelude.{◌≡◌, ◌≤◌};
+
+use crate::gates::{Diary, Hold, Holding, Meeting, zeros};
+use clock_gate::{Gate, List, NoGate};
+use interval_now::Answer;
+use live_report::Line;
+use live_run::run_trace;
+use read_runs::read_runs_laws;
+use std::alloc::Global;
+use std::sync::Wait;
+use std::sync::atomic::{AtomicU64, Ordering};
+use std::test::Fail;
+use std::thread::Threads;
+use trace_reader::read_trace;
+use writer_reopen::Polled;
+
+// The lines of a run of this trace, where it is one and memory is found.
+fn lines<R: Threads + Wait + Sync, G: Gate + Sync>(
+    rt: &R,
+    alloc: Global,
+    text: &str,
+    workers: u32,
+    gate: &G,
+) -> Option<List<Line>>
+    requires { (1 ≤ workers) × (workers ≤ 64) }
+{
+    read_runs_laws();
+    match read_trace(alloc, text.as_bytes()) {
+        Ok(trace) => match run_trace(rt, alloc, &trace, workers, gate) {
+            Ok((_table, ran)) => Some(ran.lines),
+            Err(_) => None,
+        },
+        Err(_) => None,
+    }
+}
+
+// What a line is: an opening, a poll's publication with its number, or a client's call with the number that it read.
+fn told(line: &Line) -> (&'static str, u32, u32) {
+    match line {
+        Line::Opened { poll, .. } => ("open", *poll, 0),
+        Line::Polled { poll, polled } => match polled {
+            Polled::Published { publication, .. } => ("pub", *poll, publication.generation),
+            Polled::Skipped { .. } => ("skip", *poll, 0),
+            Polled::Stopped { .. } => ("stop", *poll, 0),
+        },
+        Line::Answered {
+            client,
+            call,
+            answer,
+        } => match answer {
+            Answer::Time(timed) => (
+                "time",
+                *client,
+                call.saturating_mul(1000).saturating_add(timed.generation),
+            ),
+            _ => ("other", *client, *call),
+        },
+    }
+}
+
+const TEN_POLLS: &str =
+    "clockbound-trace,1\nclock,1000,1000\nclock,2000,2000\nclock,3000,3000\npoll,\npoll,\npoll,\npoll,\npoll,\npoll,\npoll,\npoll,\npoll,\npoll,\ncall,1\ncall,1\n";
+
+const TWO_CLIENTS: &str =
+    "clockbound-trace,1\nimage,4e5a4d4100024243500000000200feff01000000000000000000000000000000e9030000000000000000000000000000aeb9030000000000000000000000000050c30000010000000000000000000000\nclock,1000,1000\ncall,1\ncall,2\n";
+
+const FOUR_CLIENTS: &str =
+    "clockbound-trace,1\nclock,1000,1000\nclock,2000,2000\npoll,,10\npoll,,3\npoll,\ncall,1\ncall,2\ncall,3\ncall,4\ncall,1\ncall,3\ncall,4\ncall,3\n";
+
+const MANY_CLIENTS: &str =
+    "clockbound-trace,1\nclock,1000,1000\npoll,\ncall,1\ncall,2\ncall,3\ncall,4\ncall,5\ncall,6\ncall,7\ncall,8\n";
+
+fn hold(who: u32, point: u32, other: u32, there: u32) -> Hold {
+    Hold {
+        who,
+        point,
+        other,
+        there,
+    }
+}
+
+// The host, the daemon and client 1 hold each other, and the daemon and the poller too.
+#[test]
+fn host_poller_daemon_and_a_client_run_side_by_side(rt: HostRuntime) -> Result<(), Fail> {
+    let alloc: Global = rt.alloc();
+    let mut holds = Vec::new(alloc);
+    for (who, point, other, there) in [
+        (2, 2, 1, 3),
+        (1, 4, 2, 3),
+        (2, 4, 1, 5),
+        (1, 6, 2, 5),
+        (1, 4, 66, 7),
+        (66, 20, 1, 3),
+        (0, 4, 2, 3),
+    ] {
+        holds.push(hold(who, point, other, there))?;
+    }
+    let gate = Holding {
+        holds,
+        passed: zeros(alloc, 68)?,
+        late: AtomicU64::new(0),
+    };
+    let lines = lines(&rt, alloc, TEN_POLLS, 1, &gate).ok_or("a run")?;
+    assert_eq!(rt; gate.late.load(Ordering::SeqCst), 0, "late");
+    assert_eq!(rt; lines.len(), 13);
+    for (place, line) in lines.as_slice().iter().enumerate() {
+        let number = place as u32;
+        let expected = match number {
+            0 => ("open", 1, 0),
+            11 => ("time", 1, 1002),
+            12 => ("time", 1, 2004),
+            _ => ("pub", number, number.saturating_mul(2)),
+        };
+        assert_eq!(rt; told(line), expected, "line {place}");
+    }
+    Ok(())
+}
+
+#[test]
+fn one_worker_gives_two_clients_their_steps_in_turn(rt: HostRuntime) -> Result<(), Fail> {
+    let alloc: Global = rt.alloc();
+    let gate = Diary {
+        count: AtomicU64::new(0),
+        at: zeros(alloc, 64)?,
+    };
+    let _lines = lines(&rt, alloc, TWO_CLIENTS, 1, &gate).ok_or("a run")?;
+    let first = gate.passed(2, 2);
+    let second = gate.passed(3, 2);
+    let ended = gate.passed(2, 3);
+    assert!(rt; 0 < first && first < ended, "first");
+    assert!(rt; 0 < second && second < ended, "second");
+    Ok(())
+}
+
+#[test]
+fn as_many_workers_as_clients_run_side_by_side(rt: HostRuntime) -> Result<(), Fail> {
+    let alloc: Global = rt.alloc();
+    let gate = Meeting {
+        all: 8,
+        there: AtomicU64::new(0),
+        late: AtomicU64::new(0),
+    };
+    let lines = lines(&rt, alloc, MANY_CLIENTS, 64, &gate).ok_or("a run")?;
+    assert_eq!(rt; gate.late.load(Ordering::SeqCst), 0, "late");
+    assert_eq!(rt; lines.len(), 10);
+    Ok(())
+}
+
+// Whose line it is: the daemon's at a poll, or a client's at a call.
+fn place(line: &Line) -> (u32, u32) {
+    match line {
+        Line::Opened { poll, .. } | Line::Polled { poll, .. } => (0, *poll),
+        Line::Answered { client, call, .. } => (*client, *call),
+    }
+}
+
+#[test]
+fn lines_stand_in_their_order_with_any_number_of_workers(rt: HostRuntime) -> Result<(), Fail> {
+    let alloc: Global = rt.alloc();
+    let expected = [
+        (0, 1),
+        (0, 1),
+        (0, 2),
+        (0, 2),
+        (0, 3),
+        (0, 3),
+        (1, 1),
+        (1, 2),
+        (2, 1),
+        (3, 1),
+        (3, 2),
+        (3, 3),
+        (4, 1),
+        (4, 2),
+    ];
+    for workers in [1, 2, 3, 4, 64] {
+        let lines = lines(&rt, alloc, FOUR_CLIENTS, workers, &NoGate).ok_or("a run")?;
+        assert_eq!(rt; lines.len(), 14, "{workers} workers");
+        for (line, at) in lines.as_slice().iter().zip(expected) {
+            assert_eq!(rt; place(line), at, "{workers} workers");
+        }
+    }
+    Ok(())
+}
