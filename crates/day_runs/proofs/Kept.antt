@@ -14,15 +14,15 @@ use Rattle.promise_judge.specs.Disruptions.{is_drifting, is_excused, is_hidden, 
 use Rattle.promise_judge.specs.Markers.{brings_back, changes, changes_at, marker_after, repeats_at, start_marker}
 use Rattle.promise_judge.specs.Offsets.{breaks_drift_at, is_untold, offset_size}
 use Rattle.promise_judge.specs.Positions.{host_row, is_disrupt_at, position_of}
-use Rattle.promise_judge.specs.Promises.{bound_of, drift_of, fault_of, image_of, mark_of, repeat_of, untold_of, where_found, wrap_of}
+use Rattle.promise_judge.specs.Promises.{bound_of, drift_of, broken_promise_of, on_image_of, mark_of, repeat_of, untold_of, where_found, wrap_of}
 use Rattle.promise_judge.proofs.Firsts.{all_fail, one_in}
 use Rattle.day_runs.specs.Kept.{DayKeepsItsPromises, RepliesBoundTheClock, scheduled}
 use Rattle.day_runs.proofs.Clocks.{all_near, all_told, never_breaks}
 use Rattle.day_runs.proofs.Hosts.{disrupts, none_returns, page_there, row_in}
 
-all_pass : (trace : Trace) (claim : Claim) → wrap_of (period_of trace.layout) claim ≡ None → image_of claim ≡ None → untold_of trace.clock claim ≡ None → bound_of trace.clock claim ≡ None →
-    drift_of trace.drift trace.clock trace.host claim ≡ None → mark_of (start_marker trace.page) trace.host claim ≡ None → repeat_of (start_marker trace.page) trace.host claim ≡ None → fault_of trace claim ≡ None
-unfolding fault_of
+all_pass : (trace : Trace) (claim : Claim) → wrap_of (period_of trace.layout) claim ≡ None → on_image_of claim ≡ None → untold_of trace.clock claim ≡ None → bound_of trace.clock claim ≡ None →
+    drift_of trace.drift trace.clock trace.host claim ≡ None → mark_of (start_marker trace.page) trace.host claim ≡ None → repeat_of (start_marker trace.page) trace.host claim ≡ None → broken_promise_of trace claim ≡ None
+unfolding broken_promise_of
 all_pass trace claim wrap image untold bound drift mark repeat = rw (wrap, image, untold, bound, drift, mark, repeat) refl
 
 nothing : (b : Bool) (n : ℕ) → b ≡ false → where_found b n ≡ None

@@ -7,7 +7,7 @@ use Rattle.clock_gate.specs.declared.trace.Turn.{Turn}
 use Rattle.drill_day.specs.Day.{day_of, host_of}
 use Rattle.drill_day.specs.Seconds.{tracking}
 use Rattle.promise_judge.specs.Positions.{position_of}
-use Rattle.promise_judge.specs.Promises.{fault_of}
+use Rattle.promise_judge.specs.Promises.{broken_promise_of}
 use Rattle.promise_judge.specs.declared.claim.Claim.{Claim}
 
 -- what the bound of a day's reply is at least, in nanoseconds: half the root delay and the root dispersion are 2^-12 s
@@ -36,7 +36,7 @@ scheduled day turns = record day { turns = turns }
 abbrev pub DayKeepsItsPromises : Type 0
 DayKeepsItsPromises =
     (seed polls : ℕ) → 6 ≤ polls → polls ≤ 20000 → (turns : List Turn) (claim : Claim) → IsOfDay polls claim
-    → fault_of (scheduled (day_of seed polls) turns) claim ≡ None
+    → broken_promise_of (scheduled (day_of seed polls) turns) claim ≡ None
 
 -- what a reply says of the clock's error, in units of 2^-90 s
 abbrev pub units_of : Tracking → ℕ

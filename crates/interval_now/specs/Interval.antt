@@ -25,15 +25,15 @@ pub record IsGrowth (elapsed drift g : ℕ) : Type 0 where
 abbrev pub half_width_of : RecordFields → ℕ → ℤ
 half_width_of rec mono = rec.bound +ℤ pos (growth_of (elapsed_of rec.as_of mono) rec.drift)
 
-abbrev pub is_disrupted : ClockStatus → Bool
-is_disrupted Disrupted = true
-is_disrupted other = false
+abbrev pub has_disrupted : ClockStatus → Bool
+has_disrupted Disrupted = true
+has_disrupted other = false
 
 -- a disruption mark isn't absorbed, as the client sees it: the record is Disrupted, or there is a page, and the record has no support or
 -- another marker
 abbrev pub is_unabsorbed : RecordFields → Option ℕ → Bool
-is_unabsorbed rec None = is_disrupted rec.status
-is_unabsorbed rec (Some marker) = is_disrupted rec.status || (not rec.support || not (rec.marker == marker))
+is_unabsorbed rec None = has_disrupted rec.status
+is_unabsorbed rec (Some marker) = has_disrupted rec.status || (not rec.support || not (rec.marker == marker))
 
 -- the status of a record whose mark is absorbed, by whether it is void and whether it is younger than 5 s
 abbrev pub status_by_age : ClockStatus → Bool → Bool → ClockStatus

@@ -13,7 +13,7 @@ use Rattle.interval_now.specs.declared.answers.Causality.{Causality}
 use Rattle.interval_now.specs.Interval.{interval_of}
 use Rattle.generation_word.specs.Layout.{period_of}
 use Rattle.lawful_report.specs.Points.{number_at, HasNumber}
-use Rattle.lawful_report.specs.Pages.{marker_at}
+use Rattle.lawful_report.specs.Pages.{marker_of_page}
 use Rattle.lawful_report.specs.declared.entry.Entry.{Entry}
 use Rattle.lawful_report.specs.Course.{Course, entry_at, entry_or_none}
 use Rattle.lawful_report.specs.declared.seen.Seen.{Seen}
@@ -87,7 +87,7 @@ record Gives (trace : Trace) (generation row page : ℕ) (interval : Interval) (
   number : number_at (period_of trace.layout) point ≡ generation
   replied : entry.replied ≤ row
   page_of : entry.page ≤ page
-  is : interval_of entry.rec (row_at trace.clock row).mono (row_at trace.clock row).real (marker_at trace page) ≡ Ok interval
+  is : interval_of entry.rec (row_at trace.clock row).mono (row_at trace.clock row).real (marker_of_page trace page) ≡ Ok interval
 
 cases_gives : (trace : Trace) (generation row page : ℕ) (interval : Interval) (point : ℕ) (entry : Entry) → Gives trace generation row page interval point entry ⊎ (Gives trace generation row page interval point entry → ⊥)
 cases_gives trace generation row page interval point entry = elim (cases_eq (point % 2) 0) [
@@ -98,7 +98,7 @@ cases_gives trace generation row page interval point entry = elim (cases_eq (poi
       | inr never ↦ inr (λ g. never g.replied)
       | inl replied ↦ elim (cases_le entry.page page) [
         | inr never ↦ inr (λ g. never g.page_of)
-        | inl page_of ↦ elim (cases_ok (interval_of entry.rec (row_at trace.clock row).mono (row_at trace.clock row).real (marker_at trace page)) interval) [
+        | inl page_of ↦ elim (cases_ok (interval_of entry.rec (row_at trace.clock row).mono (row_at trace.clock row).real (marker_of_page trace page)) interval) [
           | inr never ↦ inr (λ g. never g.is)
           | inl is ↦ inl (record { even = even; number = number; replied = replied; page_of = page_of; is = is })
         ]

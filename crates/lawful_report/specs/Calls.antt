@@ -16,7 +16,7 @@ use Rattle.lawful_report.specs.declared.call.Call.{Call}
 use Rattle.lawful_report.specs.declared.seen.Seen.{Seen}
 use Rattle.lawful_report.specs.declared.entry.Entry.{Entry}
 use Rattle.lawful_report.specs.Course.{Course, entry_at, course_start}
-use Rattle.lawful_report.specs.Pages.{marker_at, last_page, page_seen, PageTriesFail}
+use Rattle.lawful_report.specs.Pages.{marker_of_page, last_page, page_seen, PageTriesFail}
 use Rattle.lawful_report.specs.Points.{number_at, HasNumber, IsLeast}
 
 -- before its first call: the image's point, the first row and the start page
@@ -34,7 +34,7 @@ pub record GivesInterval (trace : Trace) (course : Course) (generation row page 
   pub stands : entry_at course (point / 2) ≡ Some entry
   pub replied : entry.replied ≤ row
   pub page_of : entry.page ≤ page
-  pub is : interval_of entry.rec (row_at trace.clock row).mono (row_at trace.clock row).real (marker_at trace page) ≡ Ok interval
+  pub is : interval_of entry.rec (row_at trace.clock row).mono (row_at trace.clock row).real (marker_of_page trace page) ≡ Ok interval
 
 pub record IsTime (trace : Trace) (course : Course) (seen : Seen) (page : ℕ) (timed : Timed) (after : Seen) : Type 0 where
   pub published : 0 < timed.generation

@@ -21,7 +21,7 @@ use Rattle.status_machine.specs.Incarnation.{Incarnation, base_at, record_at}
 use Rattle.status_machine.specs.Poll.{heard_of}
 use Rattle.status_machine.specs.Base.{base_number}
 use Rattle.lawful_report.specs.declared.entry.Entry.{Entry}
-use Rattle.lawful_report.specs.Pages.{marker_at, last_page}
+use Rattle.lawful_report.specs.Pages.{marker_of_page, last_page}
 use Rattle.lawful_report.specs.Points.{segment_at}
 
 -- an incarnation with its polls, the newest first
@@ -116,7 +116,7 @@ poll_at trace course asked page row =
     record {
       number = course.polled + 1;
       reading = reading_at trace.clock asked;
-      marker = marker_at trace page;
+      marker = marker_of_page trace page;
       heard = heard_of row.reply;
     }
 

@@ -22,8 +22,8 @@ marker_from None rows page = None
 marker_from (Some start) rows page = slice_get (slice_index start 2 ∷ row_markers rows) page
 
 -- the marker of the page with a number
-abbrev pub marker_at : Trace → ℕ → Option ℕ
-marker_at trace page = marker_from trace.page trace.host page
+abbrev pub marker_of_page : Trace → ℕ → Option ℕ
+marker_of_page trace page = marker_from trace.page trace.host page
 
 -- how often the sequence count has changed since the start page's, where it stands at this: twice for a page
 abbrev pub changes_of : Trace → ℕ → ℕ

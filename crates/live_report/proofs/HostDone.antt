@@ -12,7 +12,7 @@ use Rattle.abstract_run.specs.Given.{IsGiven}
 use Rattle.segment_views.specs.Views.{HostPart}
 use Rattle.segment_views.specs.Seats.{pages_at_first, first_host_part}
 use Rattle.segment_rule.specs.Hosts.{row_added, page_added}
-use Rattle.lawful_report.specs.Pages.{row_markers, last_page, marker_from, marker_at}
+use Rattle.lawful_report.specs.Pages.{row_markers, last_page, marker_from, marker_of_page}
 use Rattle.live_report.proofs.Lists.{length_map, get_map}
 use Rattle.live_report.specs.LiveRun.{setup_of, part_after_rows}
 use Rattle.live_report.specs.LiveLaws.{page_words}
@@ -74,7 +74,7 @@ pub record HostDone (trace : Trace) (part : HostPart) : Type 0 where
   pub rows : part.rows ≡ length trace.clock
   pub pages : length part.pages - 1 ≡ last_page trace
   pub none : trace.page ≡ None → last_page trace ≡ 0
-  pub marker : (k : ℕ) → k < length part.pages → marker_at trace k ≡ Some (slice_index (slice_index_or part.pages k []) 2)
+  pub marker : (k : ℕ) → k < length part.pages → marker_of_page trace k ≡ Some (slice_index (slice_index_or part.pages k []) 2)
 
 clock_more : (rows : List HostRow) → length (clock_numbers (Clock 1 ∷ rows)) ≡ 1 + length (clock_numbers rows)
 unfolding clock_numbers

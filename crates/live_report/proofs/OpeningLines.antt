@@ -18,7 +18,7 @@ use Rattle.segment_views.specs.Views.{DaemonPart}
 use Rattle.segment_rule.specs.Opens.{opened_of, moved_by}
 use Rattle.status_machine.specs.declared.daemon.Daemon.{Daemon}
 use Rattle.status_machine.specs.Incarnation.{Incarnation}
-use Rattle.status_machine.specs.Step.{begun}
+use Rattle.status_machine.specs.Step.{daemon_begun}
 use Rattle.status_machine.proofs.LookBack.{ShowsPast-begun}
 use Rattle.lawful_report.specs.declared.counts.Counts.{Counts}
 use Rattle.lawful_report.specs.declared.entry.Entry.{Entry}
@@ -122,14 +122,14 @@ module _ (trace : Trace) (began : Started trace) (p q : DaemonPlace) (poll : ℕ
           ap (λ (b : Bool). b && (is_old_header trace.layout (slice_index trace.image 1) && keeps (start_found trace course))) test ∙ sym (ap (λ (b : Bool). b && keeps (runs.start_found s)) none)
 
   -- the incarnation that it begins
-  life_begins : (base : ℕ) → found ≡ runs.start_found s → base ≡ p.base → (daemon : Option Daemon) → daemon ≡ Some (begun (record { start = found; drift = trace.drift; support = is_some trace.page; base = base }))
+  life_begins : (base : ℕ) → found ≡ runs.start_found s → base ≡ p.base → (daemon : Option Daemon) → daemon ≡ Some (daemon_begun (record { start = found; drift = trace.drift; support = is_some trace.page; base = base }))
       → LifeFits trace daemon (Some (life_from trace (start_found trace course) (last_entry course).base))
   life_begins base start same daemon is =
       let from : Incarnation = record { start = start_found trace course; drift = trace.drift; support = is_some trace.page; base = (last_entry course).base } in
       let starts : start_found trace course ≡ found = found_same trace s course fits.segment ∙ sym start in
       let bases : (last_entry course).base ≡ base = last_base trace s course fits.segment ∙ (sym fits.base_same ∙ sym same) in
-      let begins : begun from ≡ begun (record { start = found; drift = trace.drift; support = is_some trace.page; base = base }) =
-      λ j. begun (record { start = starts j; drift = trace.drift; support = is_some trace.page; base = bases j }) in
+      let begins : daemon_begun from ≡ daemon_begun (record { start = found; drift = trace.drift; support = is_some trace.page; base = base }) =
+      λ j. daemon_begun (record { start = starts j; drift = trace.drift; support = is_some trace.page; base = bases j }) in
       subst (λ (d : Option Daemon). LifeFits trace d (Some (life_from trace (start_found trace course) (last_entry course).base))) (ap Some begins ∙ sym is) (ShowsPast-begun from, refl)
 
   -- ---- without a move

@@ -19,7 +19,7 @@ use Rattle.segment_views.specs.Steps.{loaded}
 use Rattle.segment_views.specs.Shown.{touches_of, last_shown, Rises, Climbs, StandsPage, PageSoundFrom, known_after, known_through, FollowsFrom, IsSoundCall, IsPageAfter}
 use Rattle.segment_rule.specs.Answered.{HasRead}
 use Rattle.segment_rule.proofs.ReadRecord.{rest, follows_rest}
-use Rattle.lawful_report.specs.Pages.{marker_at}
+use Rattle.lawful_report.specs.Pages.{marker_of_page}
 use Rattle.lawful_report.specs.Course.{Course}
 use Rattle.live_report.specs.LiveRun.{setup_of}
 use Rattle.live_report.proofs.Started.{FewPages}
@@ -66,7 +66,7 @@ pub record PageShown (trace : Trace) (w : SeatView) (marker : Option ℕ) (page 
   pub low : w.before.page_point ≤ 2 * page + 1
   pub high : 2 * page ≤ w.seen.page_point
   pub not_before : own ≤ page
-  pub is : marker_at trace page ≡ marker
+  pub is : marker_of_page trace page ≡ marker
 
 module _ (trace : Trace) (few : FewPages trace) (host : HostPart) (done : HostDone trace host) (history : History) (course : Course) (w : SeatView) (within : ClientWithin trace host history course w) (sound : IsSoundCall w)
     (generation : ℕ) (rec : RecordFields) (row : ℕ) (later : List Touch) (r : HasRead w generation rec row later) where

@@ -7,7 +7,7 @@ use Rattle.vmclock_page.specs.Host.{count_of, raised}
 use Rattle.vmclock_page.specs.Counting.{page_number_of}
 use Rattle.segment_views.specs.Views.{Begins, HostPart, Step}
 use Rattle.segment_views.proofs.Lists.{begins_at, begins_length}
-use Rattle.lawful_report.specs.Pages.{marker_at, last_page, changes_of, page_seen, FailsBetween, PageTriesFail}
+use Rattle.lawful_report.specs.Pages.{marker_of_page, last_page, changes_of, page_seen, FailsBetween, PageTriesFail}
 use Rattle.live_report.specs.LiveRun.{setup_of}
 use Rattle.live_report.proofs.Started.{FewPages}
 use Rattle.live_report.proofs.HostDone.{HostDone}
@@ -70,7 +70,7 @@ busy_told trace few from to first last page support fails before most =
 pub record MarkerTold (trace : Trace) (from to marker sequence : ℕ) : Type 0 where
   pub low : from ≤ 2 * page_number_of (count_of trace.page) sequence
   pub high : 2 * page_number_of (count_of trace.page) sequence ≤ to
-  pub is : marker_at trace (page_number_of (count_of trace.page) sequence) ≡ Some marker
+  pub is : marker_of_page trace (page_number_of (count_of trace.page) sequence) ≡ Some marker
 
 pub number_told : (trace : Trace) (few : FewPages trace) (point sequence : ℕ) → point ≤ 2 * last_page trace → sequence ≡ raised point (count_of trace.page) → page_number_of (count_of trace.page) sequence ≡ point / 2
 number_told trace few point sequence low is =
@@ -89,7 +89,7 @@ found_told trace few host done pages from to steps front middle marker sequence 
     record {
       low = omega (arith, number, low, even);
       high = omega (arith, number, high, even);
-      is = ap (marker_at trace) number
+      is = ap (marker_of_page trace) number
           ∙ (done.marker (found.point / 2) (omega (arith, known, more))
           ∙ ap Some (ap (λ (l : List ℕ). slice_index l 2) (begins_at pages host.pages (found.point / 2) [] begins known) ∙ sym found.marker_is));
     }

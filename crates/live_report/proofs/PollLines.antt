@@ -28,7 +28,7 @@ use Rattle.writer_reopen.specs.declared.stage.Sight.{Sight}
 use Rattle.writer_reopen.specs.Poll.{marker_seen, sequence_seen}
 use Rattle.lawful_report.specs.declared.counts.Counts.{Counts}
 use Rattle.lawful_report.specs.declared.printed.Printed.TheVariants as printed
-use Rattle.lawful_report.specs.Pages.{marker_at, last_page, page_seen}
+use Rattle.lawful_report.specs.Pages.{marker_of_page, last_page, page_seen}
 use Rattle.lawful_report.specs.Course.{Course, Life, point_stopped, skipped, stopped}
 use Rattle.lawful_report.specs.Lawful.{Due, Polling, due_next, going_on, FollowsAt, Follow}
 use Rattle.live_report.specs.LiveRun.{setup_of}
@@ -115,7 +115,7 @@ pub record TookPage (trace : Trace) (course : Course) (w : SeatView) (sight : Op
   pub kept : course.page ≤ page_number_of (count_of trace.page) (sequence_seen sight)
   pub done : page_number_of (count_of trace.page) (sequence_seen sight) ≤ last_page trace
   pub within : 2 * page_number_of (count_of trace.page) (sequence_seen sight) ≤ w.seen.page_point
-  pub marker : marker_seen sight ≡ marker_at trace (page_number_of (count_of trace.page) (sequence_seen sight))
+  pub marker : marker_seen sight ≡ marker_of_page trace (page_number_of (count_of trace.page) (sequence_seen sight))
   pub has : is_some (marker_seen sight) ≡ support
 
 pub no_page : (page : Option (List ℕ)) → is_some page ≡ false → page ≡ None

@@ -34,7 +34,7 @@ use Rattle.writer_reopen.specs.declared.stage.Taken.{Taken}
 use Rattle.writer_reopen.specs.Poll.{sequence_seen, poll_for, taken_for}
 use Rattle.lawful_report.specs.declared.counts.Counts.{Counts}
 use Rattle.lawful_report.specs.declared.printed.Printed.TheVariants as printed
-use Rattle.lawful_report.specs.Pages.{marker_at, marker_from}
+use Rattle.lawful_report.specs.Pages.{marker_of_page, marker_from}
 use Rattle.lawful_report.specs.Course.{Course, poll_at, entry_of, published, ended, IsPublished}
 use Rattle.lawful_report.specs.Lawful.{Due, Stopping, Standing, going_on, one_publication, after_publication, has_stop, DoesNotStop, FollowsAt, Follow}
 use Rattle.live_report.specs.LiveRun.{setup_of}
@@ -91,7 +91,7 @@ module _ (trace : Trace) (few : FewPages trace) (host : HostPart) (done : HostDo
         kept = omega (arith, page, start, low, sequence);
         done = omega (arith, high, most, sequence);
         within = omega (arith, high, sequence);
-        marker = ap Some saw.3 ∙ (sym told.is ∙ ap (marker_at trace) (sym sequence));
+        marker = ap Some saw.3 ∙ (sym told.is ∙ ap (marker_of_page trace) (sym sequence));
         has = refl;
       }
 

@@ -5,7 +5,7 @@ use Rattle.clock_gate.specs.declared.trace.Trace.{Trace}
 use Rattle.segment_layout.specs.declared.start.Start.{Start}
 use Rattle.status_machine.specs.declared.daemon.Daemon.{Daemon}
 use Rattle.status_machine.specs.Poll.{heard_of}
-use Rattle.status_machine.specs.Step.{begun}
+use Rattle.status_machine.specs.Step.{daemon_begun}
 use Rattle.writer_reopen.specs.declared.polled.Polled.{Polled}
 use Rattle.writer_reopen.specs.declared.polled.Polled.TheVariants as polls
 use Rattle.segment_views.specs.declared.setup.Setup.{Setup}
@@ -45,7 +45,7 @@ pub record OpensNext (trace : Trace) (p : DaemonPlace) (poll : ℕ) (start : Sta
   pub poll_is : poll ≡ p.polled + 1
   pub reopens : Reopens p.view (record { start = start; moved = moved }) q.view
   pub polled_after : q.polled ≡ p.polled
-  pub daemon_after : q.daemon ≡ Some (begun (record { start = start; drift = trace.drift; support = is_some trace.page; base = base_opened moved p.base }))
+  pub daemon_after : q.daemon ≡ Some (daemon_begun (record { start = start; drift = trace.drift; support = is_some trace.page; base = base_opened moved p.base }))
   pub base_after : q.base ≡ base_opened moved p.base
 
 -- ---- a poll

@@ -15,7 +15,7 @@ use Rattle.promise_judge.specs.Disruptions.{is_excused, is_drifting, is_told, is
 use Rattle.promise_judge.specs.Markers.{start_marker, changes_at, repeats_at}
 use Rattle.promise_judge.specs.Offsets.{is_untold, or_zero, offset_size, breaks_drift_at}
 use Rattle.promise_judge.specs.Positions.{is_disrupt_at, position_of}
-use Rattle.promise_judge.specs.Promises.{where_found, fault_or, fault_of, wrap_of, image_of, untold_of, bound_of, drift_of, mark_of, repeat_of}
+use Rattle.promise_judge.specs.Promises.{where_found, fault_or, broken_promise_of, wrap_of, on_image_of, untold_of, bound_of, drift_of, mark_of, repeat_of}
 use Rattle.promise_judge.specs.Telling.{FitsRows}
 use Rattle.promise_judge.proofs.Firsts.{none_in, all_fail}
 use Rattle.promise_judge.proofs.Pages.{NoneChanges, told_apart}
@@ -35,11 +35,11 @@ record Passes (trace : Trace) (claim : Claim) : Type 0 where
   mark : mark_of (start_marker trace.page) trace.host claim ≡ None
   repeat : repeat_of (start_marker trace.page) trace.host claim ≡ None
 
-passes : (trace : Trace) (claim : Claim) → fault_of trace claim ≡ None → Passes trace claim
-unfolding fault_of
+passes : (trace : Trace) (claim : Claim) → broken_promise_of trace claim ≡ None → Passes trace claim
+unfolding broken_promise_of
 passes trace claim none =
     let wrap = fault_none _ (wrap_of (period_of trace.layout) claim) _ none in
-    let image = fault_none _ (image_of claim) _ wrap.1 in
+    let image = fault_none _ (on_image_of claim) _ wrap.1 in
     let untold = fault_none _ (untold_of trace.clock claim) _ image.1 in
     let bound = fault_none _ (bound_of trace.clock claim) _ untold.1 in
     let drift = fault_none _ (drift_of trace.drift trace.clock trace.host claim) _ bound.1 in

@@ -5,7 +5,7 @@ use Rattle.clock_gate.specs.Trace.{NeverFalls}
 use Rattle.clock_gate.specs.declared.trace.Trace.{Trace}
 use Rattle.promise_judge.specs.declared.claim.Claim.{Claim}
 use Rattle.promise_judge.specs.Markers.{start_marker, marker_after}
-use Rattle.promise_judge.specs.Promises.{fault_of}
+use Rattle.promise_judge.specs.Promises.{broken_promise_of}
 use Rattle.promise_judge.specs.Telling.{FitsRows}
 
 -- the marker that the page shows at a host position
@@ -31,4 +31,4 @@ pub record IsContained (trace : Trace) (claim : Claim) (half : ℕ) : Type 0 whe
 abbrev pub KeptClaimsContain : Type 0
 KeptClaimsContain =
     (trace : Trace) (claim : Claim) (as_of half : ℕ)
-    → NeverFalls trace.clock → FitsRows trace claim → IsTrusted trace claim as_of half → fault_of trace claim ≡ None → IsContained trace claim half
+    → NeverFalls trace.clock → FitsRows trace claim → IsTrusted trace claim as_of half → broken_promise_of trace claim ≡ None → IsContained trace claim half

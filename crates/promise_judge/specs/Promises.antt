@@ -23,8 +23,8 @@ abbrev pub wrap_of : (period : ℕ) → Claim → Option ℕ
 wrap_of period claim = where_found (nat_le period claim.inside) claim.inside
 
 -- there is no base poll
-abbrev pub image_of : Claim → Option ℕ
-image_of claim = where_found (claim.base == 0) 0
+abbrev pub on_image_of : Claim → Option ℕ
+on_image_of claim = where_found (claim.base == 0) 0
 
 -- the first row from the base poll's second clock row to the claim's that tells no truth
 abbrev pub untold_of : List ClockRow → Claim → Option ℕ
@@ -51,10 +51,10 @@ fault_or why None later = later
 fault_or why (Some at) later = Some (record { why = why; at = at })
 
 -- the first test that finds a fault, with what it names
-unfoldable pub fault_of : Trace → Claim → Option Fault
-fault_of trace claim =
+unfoldable pub broken_promise_of : Trace → Claim → Option Fault
+broken_promise_of trace claim =
     fault_or Wrap (wrap_of (period_of trace.layout) claim) (
-    fault_or Image (image_of claim) (
+    fault_or Image (on_image_of claim) (
     fault_or Untold (untold_of trace.clock claim) (
     fault_or Bound (bound_of trace.clock claim) (
     fault_or Drift (drift_of trace.drift trace.clock trace.host claim) (

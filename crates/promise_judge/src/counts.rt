@@ -1,7 +1,7 @@
 //! The tests of the counts: `Wrap` and `Image`.
 ghost use Rattle.std.specs.Prelude.{◌≡◌};
 ghost use Rattle.generation_word.specs.Layout.{period_of};
-ghost use Rattle.promise_judge.specs.Promises.{image_of, wrap_of};
+ghost use Rattle.promise_judge.specs.Promises.{on_image_of, wrap_of};
 
 use crate::claim::Claim;
 use generation_word::Layout;
@@ -17,7 +17,7 @@ pub(crate) fn wrap_fault(layout: Layout, claim: Claim) -> Option<u64>
 }
 
 pub(crate) fn image_fault(claim: Claim) -> Option<u64>
-    ensures { result ≡ image_of claim }
+    ensures { result ≡ on_image_of claim }
 {
     if claim.base == 0 { Some(0) } else { None }
 }

@@ -1,6 +1,6 @@
 //! A claim is judged.
 ghost use Rattle.std.specs.Prelude.{◌≡◌, Some};
-ghost use Rattle.promise_judge.specs.Promises.{fault_of};
+ghost use Rattle.promise_judge.specs.Promises.{broken_promise_of};
 ghost use Rattle.promise_judge.specs.Shown.{ShowsRows};
 ghost use Rattle.promise_judge.specs.Telling.{FitsRows};
 
@@ -18,11 +18,11 @@ use clock_gate::Trace;
 
 /// The first test that finds a fault of a claim, with what it names; `None` where the claim's promises were kept. It takes
 /// constant time, by the tables of the trace's rows.
-#[tactic(auto, unfolding(crate::specs::Promises::fault_of))]
+#[tactic(auto, unfolding(crate::specs::Promises::broken_promise_of))]
 pub fn judge(trace: &Trace, tables: &Tables, claim: Claim) -> Option<Fault>
     requires shown { ShowsRows trace.now tables.now }
     requires fits { FitsRows trace.now claim }
-    ensures { result ≡ fault_of trace.now claim }
+    ensures { result ≡ broken_promise_of trace.now claim }
 {
     if let Some(at) = wrap_fault(trace.layout, claim) {
         return found(Why::Wrap, at);
@@ -49,9 +49,9 @@ pub fn judge(trace: &Trace, tables: &Tables, claim: Claim) -> Option<Fault>
 }
 
 /// The same as `judge`, without tables and so without memory, by walking over the rows for each claim.
-#[tactic(auto, unfolding(crate::specs::Promises::fault_of))]
+#[tactic(auto, unfolding(crate::specs::Promises::broken_promise_of))]
 pub fn first_fault(trace: &Trace, claim: Claim) -> Option<Fault>
-    ensures { result ≡ fault_of trace.now claim }
+    ensures { result ≡ broken_promise_of trace.now claim }
 {
     let clock = trace.clock.as_slice();
     let host = trace.host.as_slice();

@@ -18,7 +18,7 @@ use Rattle.status_machine.specs.Poll.{BaseFits}
 use Rattle.lawful_report.specs.declared.entry.Entry.{Entry}
 use Rattle.status_machine.specs.Base.{base_number}
 use Rattle.lawful_report.specs.Course.{Course, Life, poll_at, IsPublished}
-use Rattle.lawful_report.specs.Pages.{last_page, marker_at, marker_from, row_markers}
+use Rattle.lawful_report.specs.Pages.{last_page, marker_of_page, marker_from, row_markers}
 use Rattle.lawful_report.specs.Lines.{published_line, published_place, published_rows, published_base}
 use Rattle.report_audit.specs.Auditor.{ShowsCourse}
 use Rattle.report_audit.specs.declared.progress.Progress.{Progress}
@@ -121,5 +121,5 @@ marked None host page most = refl
 marked (Some start) host page most = ap (λ (o : Option ℕ). is_some o) (slice_get-get_or (slice_index start 2 ∷ row_markers host) page 0 (omega (arith, most)))
 
 -- a page up to the last has a marker where there is a page
-pub marker_there : (trace : Trace) (page : ℕ) → page ≤ last_page trace → is_some (marker_at trace page) ≡ is_some trace.page
+pub marker_there : (trace : Trace) (page : ℕ) → page ≤ last_page trace → is_some (marker_of_page trace page) ≡ is_some trace.page
 marker_there trace page most = marked trace.page trace.host page most

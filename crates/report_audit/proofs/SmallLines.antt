@@ -13,7 +13,7 @@ use Rattle.lawful_report.specs.declared.seen.Seen.{Seen}
 use Rattle.lawful_report.specs.Calls.{MayAnswer}
 use Rattle.lawful_report.specs.Course.{Course}
 use Rattle.lawful_report.specs.Lawful.{Due, Heading, Opening, Moving, Polling, Stopping, Answering, Standing, seen_before, PublishesHere, FollowsAt}
-use Rattle.lawful_report.specs.Pages.{marker_at}
+use Rattle.lawful_report.specs.Pages.{marker_of_page}
 use Rattle.report_audit.specs.Auditor.{EntryFits}
 use Rattle.report_audit.proofs.EarlyReads.{row_moments}
 use Rattle.report_audit.proofs.EntryPoints.{all_entries}
@@ -43,7 +43,7 @@ small_answer trace course tries seen page (Time t) after limits kept view may =
       generation = omega (arith, number_small trace.layout t.generation after.point may.least.has.number);
       row = omega (arith, may.row_done, limits.rows_few);
       page_is = omega (arith, may.page_done, limits.pages_few);
-      ends = small_ends may.least.has.entry.rec (row_at trace.clock t.row).mono (row_at trace.clock t.row).real (marker_at trace page) t.interval entry moments.0 moments.1 may.least.has.is;
+      ends = small_ends may.least.has.entry.rec (row_at trace.clock t.row).mono (row_at trace.clock t.row).real (marker_of_page trace page) t.interval entry moments.0 moments.1 may.least.has.is;
     }
 small_answer trace course tries seen page (Busy said first last) after limits kept view may =
     let small = failing_small trace.layout seen.point course.point first last after.point may.1.found in

@@ -8,7 +8,7 @@ use Rattle.status_machine.specs.Step.{ShowsPast}
 use Rattle.lawful_report.specs.declared.counts.Counts.{Counts}
 use Rattle.lawful_report.specs.declared.seen.Seen.{Seen}
 use Rattle.lawful_report.specs.declared.entry.Entry.{Entry}
-use Rattle.lawful_report.specs.Pages.{marker_at}
+use Rattle.lawful_report.specs.Pages.{marker_of_page}
 use Rattle.lawful_report.specs.Course.{Course, Life, course_start}
 use Rattle.lawful_report.specs.Calls.{calls_of, seen_first}
 use Rattle.report_audit.specs.declared.due.Due.{Due}
@@ -28,7 +28,7 @@ pub record SeenFits (seen : Seen) : Type 0 where
 pub record KnowsTrace (trace : Trace) (known : Known) : Type 0 where
   pub pages : KnowsPages trace known.pages
   pub most : known.pages.most < 2 ^ 31
-  pub markers : (page : ℕ) → marker_at trace page ≡ slice_get known.markers page
+  pub markers : (page : ℕ) → marker_of_page trace page ≡ slice_get known.markers page
   pub calls : calls_of trace ≡ known.calls
   pub first : seen_first trace ≡ known.first
   pub first_fits : SeenFits known.first

@@ -20,7 +20,7 @@ use Rattle.generation_word.specs.Layout.{period_of}
 use Rattle.lawful_report.specs.Points.{IsLeast}
 use Rattle.report_audit.specs.Leasts.{NoneHas}
 use Rattle.lawful_report.specs.Lines.{skipped_line, answered_line, published_line}
-use Rattle.lawful_report.specs.Pages.{PageTriesFail, page_seen, marker_at}
+use Rattle.lawful_report.specs.Pages.{PageTriesFail, page_seen, marker_of_page}
 use Rattle.status_machine.specs.Base.{base_number}
 use Rattle.lawful_report.specs.Course.{Course, Life, entry_at, entry_of, poll_at, IsPublished}
 use Rattle.lawful_report.specs.declared.entry.Entry.{Entry}
@@ -90,7 +90,7 @@ pub record KnowsTime (trace : Trace) (course : Course) (entries : List Entry) (b
   pub before_is : course.before ≡ before
   pub mono_is : (row_at trace.clock row).mono ≡ mono
   pub real_is : (row_at trace.clock row).real ≡ real
-  pub marker_is : marker_at trace page ≡ marker
+  pub marker_is : marker_of_page trace page ≡ marker
 
 -- the answer Time with this interval
 abbrev pub time_said : (generation row : ℕ) → Interval → Answer
@@ -148,7 +148,7 @@ pub record KnowsPoll (trace : Trace) (course : Course) (life : Life) (row : Poll
   pub clock_is : trace.clock ≡ clock
   pub number_is : course.polled + 1 ≡ number
   pub heard_is : heard_of row.reply ≡ heard
-  pub marker_is : marker_at trace page ≡ marker
+  pub marker_is : marker_of_page trace page ≡ marker
   pub shows : ShowsPast life.from life.past daemon
 
 -- the record and the base of a poll are those of looking back, and the daemon shows one poll more

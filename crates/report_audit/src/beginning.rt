@@ -4,7 +4,7 @@ ghost use Rattle.clock_gate.specs.Trace.{IsLawfulTrace};
 ghost use Rattle.vmclock_page.specs.Host.{count_of};
 ghost use Rattle.lawful_report.specs.Calls.{calls_of, calls_of_client};
 ghost use Rattle.lawful_report.specs.Course.{course_by, course_start};
-ghost use Rattle.lawful_report.specs.Pages.{marker_at, row_markers};
+ghost use Rattle.lawful_report.specs.Pages.{marker_of_page, row_markers};
 ghost use Rattle.report_audit.specs.Auditor.{KnowsTrace, ShowsCourse, StartIsSmall};
 
 use crate::known::Known;
@@ -39,7 +39,7 @@ fn push_markers(markers: &mut Vec<u64>, host: &[HostRow]) -> Result<(), AllocErr
 
 // The markers of all pages by their numbers; none without a page.
 fn markers_of(alloc: Global, trace: &Trace) -> Result<Vec<u64>, AllocError>
-    ensures { IfOk result (λ markers. (page : ℕ) → marker_at trace.now page ≡ slice_get markers.items page) }
+    ensures { IfOk result (λ markers. (page : ℕ) → marker_of_page trace.now page ≡ slice_get markers.items page) }
 {
     let mut markers = Vec::new(alloc);
     let Some(words) = &trace.page else {

@@ -222,7 +222,7 @@ module _ (trace : Trace) (host : HostRun) (from : SegmentRun) (past : List Event
 
   -- ---- a publication
 
-  named_is : (trace_page : Option (List ℕ)) (rec : RecordFields) (marked_at : ℕ) → rec.marker ≡ incarnation.marker_by (marker_by trace marked_at trace_page) → rec.support ≡ is_some trace_page
+  named_is : (trace_page : Option (List ℕ)) (rec : RecordFields) (marked_at : ℕ) → rec.marker ≡ incarnation.marker_or_zero (marker_by trace marked_at trace_page) → rec.support ≡ is_some trace_page
       → named_marker rec ≡ marker_by trace marked_at trace_page
   named_is None rec marked_at marker support = rw support refl
   named_is (Some page) rec marked_at marker support = rw support (ap Some marker)
@@ -379,7 +379,7 @@ module _ (trace : Trace) (host : HostRun) (from : SegmentRun) (past : List Event
       (record { publication = publication; stores = 0; marked_at = asked.marked_at; replied_at = replied_at }) is all
       (record {
         begun = begun;
-        marked = record { marker = ap incarnation.marker_by own; support = held.0; drift = held.1 };
+        marked = record { marker = ap incarnation.marker_or_zero own; support = held.0; drift = held.1 };
         keeps = λ position some calm.
             number_marked (Published position publication asked.marked_at replied_at ∷ past) (base_at life.from (poll ∷ life.past)) asked.marker (marker_at trace asked.marked_at) own
             (lives position (calm_by (is_disrupted life.from.start (poll ∷ life.past)) _ _ calm)) some;

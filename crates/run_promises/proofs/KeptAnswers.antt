@@ -23,7 +23,7 @@ use Rattle.promise_judge.specs.declared.fault.Fault.{Fault}
 use Rattle.promise_judge.specs.declared.fault.Why.{Why}
 use Rattle.promise_judge.specs.Containment as judge
 use Rattle.promise_judge.specs.Containment.{IsContained}
-use Rattle.promise_judge.specs.Promises.{fault_or, fault_of, wrap_of, image_of, where_found}
+use Rattle.promise_judge.specs.Promises.{fault_or, broken_promise_of, wrap_of, on_image_of, where_found}
 use Rattle.promise_judge.specs.Telling.{IsTold, FitsRows}
 use Rattle.promise_judge.proofs.Contained.{kept_contains}
 use Rattle.promise_judge.proofs.Places.{told_fits}
@@ -54,11 +54,11 @@ pub record IsCounted (trace : Trace) (claim : Claim) : Type 0 where
   pub few : claim.inside < period_of trace.layout
   pub based : 0 < claim.base
 
-counted : (trace : Trace) (claim : Claim) → fault_of trace claim ≡ None → IsCounted trace claim
-unfolding fault_of
+counted : (trace : Trace) (claim : Claim) → broken_promise_of trace claim ≡ None → IsCounted trace claim
+unfolding broken_promise_of
 counted trace claim none =
     let first = found_none _ (wrap_of (period_of trace.layout) claim) _ none in
-    let second = found_none _ (image_of claim) _ first.1 in
+    let second = found_none _ (on_image_of claim) _ first.1 in
     let wraps : nat_le (period_of trace.layout) claim.inside ≡ false = where_none (nat_le (period_of trace.layout) claim.inside) claim.inside first.0 in
     let stood : (claim.base == 0) ≡ false = where_none (claim.base == 0) 0 second.0 in
     record { few = grind (arith, nat_tests, wraps); based = grind (arith, nat_tests, stood) }
@@ -234,7 +234,7 @@ module _ (trace : Trace) (can : CanRun trace) (past : List Event) (time : Timed)
         latest = subst (λ (z : ℤ). pos in_it.truth ≤ℤ z) (sym is.latest) in_it.latest;
       }
 
-  kept_poll : (told base : PublishedEvent) → told_at trail.position past ≡ Some told → told_by told.publication.base past ≡ Some base → fault_of trace (poll_claim time trail told base) ≡ None → ContainsTruth trace time
+  kept_poll : (told base : PublishedEvent) → told_at trail.position past ≡ Some told → told_by told.publication.base past ≡ Some base → broken_promise_of trace (poll_claim time trail told base) ≡ None → ContainsTruth trace time
   kept_poll told base found found_base none =
       let counts : IsCounted trace (poll_claim time trail told base) = counted trace (poll_claim time trail told base) none in
       let is : IsByPoll trace time trail told base (row_at trace.clock base.publication.asked).mono (growth_in told) = by_poll told base found found_base counts.based counts.few in
@@ -243,14 +243,14 @@ module _ (trace : Trace) (can : CanRun trace) (past : List Event) (time : Timed)
       (fits_rows told base found found_base counts.based) is.trusted none)
 
   -- the image's claim has a fault
-  image_fails : fault_of trace (image_claim time trail) ≡ None → ContainsTruth trace time
+  image_fails : broken_promise_of trace (image_claim time trail) ≡ None → ContainsTruth trace time
   image_fails none = let based = (counted trace (image_claim time trail) none).based in absurd (omega (arith, based))
 
-  kept_by_base : (told : PublishedEvent) (base : Option PublishedEvent) → told_at trail.position past ≡ Some told → told_by told.publication.base past ≡ base → fault_of trace (claim_by_base time trail told base) ≡ None → ContainsTruth trace time
+  kept_by_base : (told : PublishedEvent) (base : Option PublishedEvent) → told_at trail.position past ≡ Some told → told_by told.publication.base past ≡ base → broken_promise_of trace (claim_by_base time trail told base) ≡ None → ContainsTruth trace time
   kept_by_base told None found found_base none = image_fails none
   kept_by_base told (Some base) found found_base none = kept_poll told base found found_base none
 
-  kept_by : (told : Option PublishedEvent) → told_at trail.position past ≡ told → fault_of trace (claim_by past time trail told) ≡ None → ContainsTruth trace time
+  kept_by : (told : Option PublishedEvent) → told_at trail.position past ≡ told → broken_promise_of trace (claim_by past time trail told) ≡ None → ContainsTruth trace time
   kept_by None found none = image_fails none
   kept_by (Some told) found none = kept_by_base told (told_by told.publication.base past) found refl none
 

@@ -14,7 +14,7 @@ use Rattle.interval_now.specs.declared.answers.Answer.TheVariants.{Time, NotInit
 use Rattle.abstract_run.specs.declared.event.Event.{Event}
 use Rattle.abstract_run.specs.declared.event.Event.TheVariants.{Opened, Published, Answered}
 use Rattle.promise_judge.specs.declared.fault.Why.TheVariants.{Wrap, Image, Drift, Mark}
-use Rattle.promise_judge.specs.Promises.{fault_of}
+use Rattle.promise_judge.specs.Promises.{broken_promise_of}
 use Rattle.run_promises.specs.declared.premises.Premises.TheVariants.{Held, Failed}
 use Rattle.run_promises.specs.Judged.{premises_of}
 
@@ -70,38 +70,38 @@ answered client call status position inside clock_at mark_at =
 disrupted_before :
     premises_of (rows (Clock 1 ∷ Disrupt ∷ Page (page_with 8) ∷ Clock 2 ∷ []))
     (Opened 1 Fresh ∷ published 8 3 ∷ answered 1 1 Synchronized 1 0 4 4 ∷ []) ≡ Failed 1 1 Drift 2
-unfolding fault_of rows page_with late first_publication published answered
+unfolding broken_promise_of rows page_with late first_publication published answered
 disrupted_before = refl
 
 -- one after it, which a page row tells after the client's marker load only; and before it
 told_too_late :
     premises_of (rows (Clock 1 ∷ Disrupt ∷ Clock 2 ∷ Page (page_with 8) ∷ []))
     (Opened 1 Fresh ∷ published 7 1 ∷ answered 1 1 Synchronized 1 0 3 3 ∷ []) ≡ Failed 1 1 Mark 2
-unfolding fault_of rows page_with late first_publication published answered
+unfolding broken_promise_of rows page_with late first_publication published answered
 told_too_late = refl
 
 -- an answer that claims nothing isn't looked at
 claims_nothing :
     premises_of (rows (Clock 1 ∷ Disrupt ∷ Clock 2 ∷ Page (page_with 8) ∷ []))
     (Opened 1 Fresh ∷ published 7 1 ∷ answered 1 1 Disrupted 1 0 3 4 ∷ answered 1 2 Unknown 1 0 3 3 ∷ Answered 2 1 NotInitialized None ∷ []) ≡ Held
-unfolding fault_of rows page_with late first_publication published answered
+unfolding broken_promise_of rows page_with late first_publication published answered
 claims_nothing = refl
 
 -- no publication before it made its position: the image's record
 of_the_image :
     premises_of (rows (Clock 1 ∷ Clock 2 ∷ [])) (Opened 1 Fresh ∷ answered 3 1 FreeRunning 1 0 2 2 ∷ published 7 2 ∷ []) ≡ Failed 3 1 Image 0
-unfolding fault_of rows page_with late first_publication published answered
+unfolding broken_promise_of rows page_with late first_publication published answered
 of_the_image = refl
 
 -- a wrapped read comes before that
 wrapped_first :
     premises_of (rows (Clock 1 ∷ Clock 2 ∷ [])) (Opened 1 Fresh ∷ answered 3 1 FreeRunning 1 32767 2 2 ∷ []) ≡ Failed 3 1 Wrap 32767
-unfolding fault_of rows page_with late first_publication published answered
+unfolding broken_promise_of rows page_with late first_publication published answered
 wrapped_first = refl
 
 -- the first in the order of the events
 first_of_two :
     premises_of (rows (Clock 1 ∷ Disrupt ∷ Clock 2 ∷ Page (page_with 8) ∷ []))
     (Opened 1 Fresh ∷ published 7 1 ∷ answered 2 1 FreeRunning 1 0 3 3 ∷ answered 1 1 Synchronized 5 0 3 3 ∷ []) ≡ Failed 2 1 Mark 2
-unfolding fault_of rows page_with late first_publication published answered
+unfolding broken_promise_of rows page_with late first_publication published answered
 first_of_two = refl

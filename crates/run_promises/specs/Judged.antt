@@ -19,7 +19,7 @@ use Rattle.promise_judge.specs.Positions.{position_of}
 use Rattle.promise_judge.specs.Containment.{IsTrusted}
 use Rattle.promise_judge.specs.declared.claim.Claim.{Claim}
 use Rattle.promise_judge.specs.declared.fault.Fault.{Fault}
-use Rattle.promise_judge.specs.Promises.{fault_of}
+use Rattle.promise_judge.specs.Promises.{broken_promise_of}
 use Rattle.promise_judge.specs.Telling.{FitsRows}
 use Rattle.run_promises.specs.Told.{IsFresh}
 use Rattle.run_promises.specs.declared.premises.Premises.{Premises}
@@ -67,7 +67,7 @@ is_trusted other = false
 
 -- the first fault of its claim
 abbrev pub judged : Trace → List Event → Timed → Trail → Option Fault
-judged trace past time trail = fault_of trace (claim_of past time trail)
+judged trace past time trail = broken_promise_of trace (claim_of past time trail)
 
 abbrev pub verdict_of : (client call : ℕ) → Option Fault → Premises
 verdict_of client call None = Held

@@ -25,7 +25,7 @@ use Rattle.abstract_run.specs.HostRun.{marker_at}
 -- a record has the marker that stood in the page at its poll's marker load, or 0 without a page; it tells whether there is one, and
 -- the trace's drift
 pub record IsMarked (trace : Trace) (rec : RecordFields) (marked_at : ℕ) : Type 0 where
-  pub marker : rec.marker ≡ incarnation.marker_by (marker_at trace marked_at)
+  pub marker : rec.marker ≡ incarnation.marker_or_zero (marker_at trace marked_at)
   pub support : rec.support ≡ is_some trace.page
   pub drift : rec.drift ≡ trace.drift
 

@@ -9,7 +9,7 @@ use Rattle.clock_gate.specs.declared.act.Act.TheVariants.{Store, End}
 use Rattle.clock_gate.specs.declared.trace.HostRow.{HostRow}
 use Rattle.clock_gate.specs.declared.trace.HostRow.TheVariants.{Clock, Page, Disrupt}
 use Rattle.segment_layout.specs.Words.{flag_of}
-use Rattle.vmclock_page.specs.Host.{Host, IsHost, act_of, given, begun, new_host, constants_of, count_of, raised, page_stores, row_stores, stores_in_hand, count_after}
+use Rattle.vmclock_page.specs.Host.{Host, IsHost, act_of, given, row_begun, new_host, constants_of, count_of, raised, page_stores, row_stores, stores_in_hand, count_after}
 use Rattle.vmclock_page.specs.Rows.{IsRowOf, IsPageRowAfter}
 use Rattle.vmclock_page.specs.Words.{word_with_count, count_in_word}
 use Rattle.segment_views.specs.declared.setup.Setup.{Setup}
@@ -239,7 +239,7 @@ host_more row v w x m new word value b u act t is =
 
 -- ---- its end
 
-pub host_begins : (row : HostRow) (v : SeatView) (m new : Host) → IsBetweenRows m v → new ≡ begun m row → HostAt row v new v
+pub host_begins : (row : HostRow) (v : SeatView) (m new : Host) → IsBetweenRows m v → new ≡ row_begun m row → HostAt row v new v
 host_begins row v m new b is =
     subst (λ (n : Host). HostAt row v n v) (sym is)
     (record { view = sym (none_made row v); start = b.start; same_row = refl; count = b.count ∙ sym (none_counted row (count_at v)) })

@@ -19,7 +19,7 @@ use Rattle.status_machine.specs.declared.heard.Heard.TheVariants.{Reply, Missing
 use Rattle.status_machine.specs.declared.poll.Poll.{Poll}
 use Rattle.status_machine.specs.Incarnation.{Incarnation, base_by_status, start_base, as_of_by, bound_by}
 use Rattle.status_machine.specs.Poll.{base_of_good, base_of_heard, base_of_poll, BaseFits}
-use Rattle.status_machine.specs.Step.{mode_is_disrupted, mode_after_poll, daemon_step, record_of, begun}
+use Rattle.status_machine.specs.Step.{mode_is_disrupted, mode_after_poll, daemon_step, record_of, daemon_begun}
 
 -- ---- a poll
 
@@ -91,5 +91,5 @@ start_fits (Kept generation rec) number fits =
     (record { as_of_low = fits.as_of_low; as_of_high = fits.as_of_high; bound_low = fits.bound_low; bound_high = fits.bound_high })
 
 -- and the base that an incarnation begins with
-pub begun-fits : (from : Incarnation) → StartFits from.start → IfSome (begun from).base BaseFits
+pub begun-fits : (from : Incarnation) → StartFits from.start → IfSome (daemon_begun from).base BaseFits
 begun-fits from fits = start_fits from.start from.base fits

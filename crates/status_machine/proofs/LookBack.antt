@@ -12,7 +12,7 @@ use Rattle.status_machine.specs.declared.mode.Mode.TheVariants.{Clear, MustMark,
 use Rattle.status_machine.specs.declared.poll.Poll.{Poll}
 use Rattle.status_machine.specs.Poll.{reference_of, is_good}
 use Rattle.status_machine.specs.Incarnation.{Incarnation, is_other, first_marks, marks, start_since_mark, one_later, since_mark, first_of, guard_of, is_good_other, absorbed_by, is_absorbed, is_unabsorbed, is_disrupted, record_at}
-use Rattle.status_machine.specs.Step.{mode_is_disrupted, mode_marks, is_marked, unmarked_next, mode_next, mode_after_poll, held_next, daemon_step, record_of, start_held, mode_since, start_mode, begun, held_after, mode_after, MarkersFit, ShowsPast}
+use Rattle.status_machine.specs.Step.{mode_is_disrupted, mode_marks, is_marked, unmarked_next, mode_next, mode_after_poll, held_next, daemon_step, record_of, start_held, mode_since, start_mode, daemon_begun, held_after, mode_after, MarkersFit, ShowsPast}
 
 first_of-assoc : (a b c : Option RefTime) → first_of (first_of a b) c ≡ first_of a (first_of b c)
 first_of-assoc None b c = refl
@@ -214,5 +214,5 @@ record_of-shown from past daemon p h =
     rw (disrupted_is, h.base, h.held, h.same_drift, h.same_support) refl
 
 -- an incarnation begins where its start leads
-pub ShowsPast-begun : (from : Incarnation) → ShowsPast from [] (begun from)
+pub ShowsPast-begun : (from : Incarnation) → ShowsPast from [] (daemon_begun from)
 ShowsPast-begun from = record { same_drift = refl; same_support = refl; markers_fit = tt; held = refl; base = refl; mode = refl }

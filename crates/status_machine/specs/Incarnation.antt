@@ -127,9 +127,9 @@ bound_by None = pos 0
 bound_by (Some base) = base.bound
 
 -- a record's marker: that of the page, or without one 0
-abbrev pub marker_by : Option ℕ → ℕ
-marker_by None = 0
-marker_by (Some marker) = marker
+abbrev pub marker_or_zero : Option ℕ → ℕ
+marker_or_zero None = 0
+marker_or_zero (Some marker) = marker
 
 -- the record of a poll, given those before it
 abbrev pub record_at : Incarnation → Poll → List Poll → RecordFields
@@ -138,7 +138,7 @@ record_at from poll past =
       as_of = as_of_by (base_at from (poll ∷ past)) poll.reading.mono;
       void_after = as_of_by (base_at from (poll ∷ past)) poll.reading.mono +ℤ pos 1000000000000;
       bound = bound_by (base_at from (poll ∷ past));
-      marker = marker_by poll.marker;
+      marker = marker_or_zero poll.marker;
       drift = from.drift;
       status = status_at from poll past;
       support = from.support;

@@ -10,7 +10,7 @@ use Rattle.status_machine.specs.declared.mode.Mode.{Mode}
 use Rattle.status_machine.specs.declared.mode.Mode.TheVariants.{Clear, MustMark, Disrupted}
 use Rattle.status_machine.specs.declared.poll.Poll.{Poll}
 use Rattle.status_machine.specs.Poll.{reference_of, has_other_time, base_of_poll, is_good}
-use Rattle.status_machine.specs.Incarnation.{Incarnation, is_other, start_since_mark, since_mark, guard_of, is_absorbed, status_by, start_base, base_at, as_of_by, bound_by, marker_by}
+use Rattle.status_machine.specs.Incarnation.{Incarnation, is_other, start_since_mark, since_mark, guard_of, is_absorbed, status_by, start_base, base_at, as_of_by, bound_by, marker_or_zero}
 
 abbrev pub mode_is_disrupted : Mode → Bool
 mode_is_disrupted Clear = false
@@ -71,7 +71,7 @@ record_of daemon poll =
       as_of = as_of_by daemon.base poll.reading.mono;
       void_after = as_of_by daemon.base poll.reading.mono +ℤ pos 1000000000000;
       bound = bound_by daemon.base;
-      marker = marker_by daemon.held;
+      marker = marker_or_zero daemon.held;
       drift = daemon.drift;
       status = status_by (mode_is_disrupted daemon.mode) (is_good poll) (is_some daemon.base);
       support = daemon.support;
@@ -96,8 +96,8 @@ start_mode support (Kept generation rec) =
     if support && not rec.support then MustMark else mode_since (start_since_mark (Kept generation rec))
 
 -- the daemon that an incarnation is begun with
-abbrev pub begun : Incarnation → Daemon
-begun from =
+abbrev pub daemon_begun : Incarnation → Daemon
+daemon_begun from =
     record {
       drift = from.drift;
       support = from.support;

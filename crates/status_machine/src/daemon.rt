@@ -2,8 +2,8 @@ ghost use Rattle.std.specs.Prelude.{◌≡◌, ◌≤◌, ◌^◌, ◌+ℤ◌, �
 ghost use Rattle.clock_gate.specs.declared.limits.TheConstants.{LAST_MOMENT};
 ghost use Rattle.status_machine.specs.declared.poll.Poll.{Poll as Polled};
 ghost use Rattle.status_machine.specs.Poll.{is_good, BaseFits};
-ghost use Rattle.status_machine.specs.Incarnation.{Incarnation, start_base, base_by_status, status_by, as_of_by, bound_by, marker_by, record_at};
-ghost use Rattle.status_machine.specs.Step.{is_marked, mode_is_disrupted, daemon_step, record_of, start_held, start_mode, begun, ShowsPast};
+ghost use Rattle.status_machine.specs.Incarnation.{Incarnation, start_base, base_by_status, status_by, as_of_by, bound_by, marker_or_zero, record_at};
+ghost use Rattle.status_machine.specs.Step.{is_marked, mode_is_disrupted, daemon_step, record_of, start_held, start_mode, daemon_begun, ShowsPast};
 
 use crate::base::Base;
 use crate::mode::Mode;
@@ -37,7 +37,7 @@ impl Daemon {
     /// marker where both sides have support. Where the marker before the opening isn't known, the first poll marks.
     pub fn resume(start: &Start, drift: u32, support: bool, base: u32) -> Daemon
         requires { drift ≤ 1000000000 }
-        ensures value { result ≡ begun (record { start = start.now; drift = drift; support = support; base = base }) }
+        ensures value { result ≡ daemon_begun (record { start = start.now; drift = drift; support = support; base = base }) }
         ensures shows { ShowsPast (record { start = start.now; drift = drift; support = support; base = base }) [] result }
         ensures base { IfSome result.base BaseFits }
     {
@@ -119,7 +119,7 @@ impl Daemon {
             stamp_of(as_of),
             stamp_of(void_after_of(as_of)),
             bound_by(&self.base),
-            marker_by(self.held),
+            marker_or_zero(self.held),
             self.drift,
             status_by(
                 self.mode.is_disrupted(),
@@ -218,8 +218,8 @@ fn void_after_of(as_of: i128) -> i128
     as_of + VALID_NANOS
 }
 
-fn marker_by(held: Option<u64>) -> u64
-    ensures { result ≡ marker_by held }
+fn marker_or_zero(held: Option<u64>) -> u64
+    ensures { result ≡ marker_or_zero held }
 {
     held.unwrap_or(0)
 }

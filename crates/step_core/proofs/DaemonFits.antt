@@ -11,7 +11,7 @@ use Rattle.clock_gate.specs.ClockRow.{no_row, row_at}
 use Rattle.status_machine.specs.declared.daemon.Daemon.{Daemon}
 use Rattle.status_machine.specs.declared.poll.Poll.{Poll}
 use Rattle.status_machine.specs.Incarnation.{Incarnation}
-use Rattle.status_machine.specs.Step.{daemon_step, record_of, begun}
+use Rattle.status_machine.specs.Step.{daemon_step, record_of, daemon_begun}
 use Rattle.status_machine.proofs.Fits.{StartFits, daemon_step-fits, record_of-fits, begun-fits}
 use Rattle.segment_run.proofs.SegmentEnded.{KeepsBoundsOf}
 use Rattle.writer_reopen.specs.PollMachine.{DaemonFits}
@@ -31,5 +31,5 @@ step_fits daemon poll fits most = record { drift = fits.drift; base = daemon_ste
 pub record_bounds : (daemon : Daemon) (poll : Poll) → DaemonFits daemon → poll.reading.mono ≤ LAST_MOMENT → KeepsBoundsOf (record_of daemon poll)
 record_bounds daemon poll fits most = record_of-fits daemon poll fits.base most fits.drift
 
-pub begun_fits : (from : Incarnation) → from.drift ≤ MOST_DRIFT → StartFits from.start → DaemonFits (begun from)
+pub begun_fits : (from : Incarnation) → from.drift ≤ MOST_DRIFT → StartFits from.start → DaemonFits (daemon_begun from)
 begun_fits from slow fits = record { drift = slow; base = begun-fits from fits }

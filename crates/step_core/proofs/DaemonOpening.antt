@@ -16,7 +16,7 @@ use Rattle.segment_layout.specs.Image.{generation_of_start, is_old_header}
 use Rattle.segment_layout.specs.Record.{RecordFields}
 use Rattle.segment_layout.specs.Words.{fields_of_words}
 use Rattle.segment_layout.proofs.Back.{fields_of_words-data_words}
-use Rattle.status_machine.specs.Step.{begun}
+use Rattle.status_machine.specs.Step.{daemon_begun}
 use Rattle.status_machine.proofs.Fits.{StartFits}
 use Rattle.status_machine.proofs.LookBack.{ShowsPast-begun}
 use Rattle.segment_run.specs.SegmentRun.{SegmentRun, number_shown, opening_length, opening_effect, headed, opened_update}
@@ -217,7 +217,7 @@ pub record IsOpenEnd (trace : Trace) (segment : SegmentRun) (run : DaemonRun) (d
   pub numbered : unwrap_or (if moved then Some number else None) (generation_of_start start) ≡ number_shown segment
 
 begins_where : (trace : Trace) (start : Start) (base : ℕ) → trace.drift ≤ MOST_DRIFT → StartFits start
-    → IsWhere trace (life_from trace start base) (begun (record { start = start; drift = trace.drift; support = is_some trace.page; base = base }))
+    → IsWhere trace (life_from trace start base) (daemon_begun (record { start = start; drift = trace.drift; support = is_some trace.page; base = base }))
 begins_where trace start base slow fits =
     record {
       past = ShowsPast-begun (record { start = start; drift = trace.drift; support = is_some trace.page; base = base });
@@ -250,8 +250,8 @@ end_leaves trace host segment run daemon job machine start true number is =
       told = rw (is.same_polled, ← is.place, is.numbered) refl;
     }
 end_leaves trace host segment run daemon job machine start false number is =
-    let here : IsWhere trace (life_from trace start run.base) (begun (record { start = start; drift = trace.drift; support = is_some trace.page; base = daemon.base })) =
-    subst (λ (base : ℕ). IsWhere trace (life_from trace start run.base) (begun (record { start = start; drift = trace.drift; support = is_some trace.page; base = base }))) (sym is.same_base)
+    let here : IsWhere trace (life_from trace start run.base) (daemon_begun (record { start = start; drift = trace.drift; support = is_some trace.page; base = daemon.base })) =
+    subst (λ (base : ℕ). IsWhere trace (life_from trace start run.base) (daemon_begun (record { start = start; drift = trace.drift; support = is_some trace.page; base = base }))) (sym is.same_base)
     (begins_where trace start run.base is.slow is.fits) in
     record {
       shows = record {

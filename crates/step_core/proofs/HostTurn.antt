@@ -14,7 +14,7 @@ use Rattle.clock_gate.specs.declared.trace.HostRow.{HostRow}
 use Rattle.clock_gate.specs.declared.trace.HostRow.TheVariants.{Clock, Page, Disrupt}
 use Rattle.vmclock_page.specs.Words.{word_with_count}
 use Rattle.vmclock_page.specs.Rows.{IsRowOf, ArePageRows}
-use Rattle.vmclock_page.specs.Host.{Host, begun, act_of, given, constants_of, count_of, raised, page_stores}
+use Rattle.vmclock_page.specs.Host.{Host, row_begun, act_of, given, constants_of, count_of, raised, page_stores}
 use Rattle.segment_run.specs.ShowsSegment.{KeepsSegment}
 use Rattle.abstract_run.specs.HostRun.{HostRun, clocks_at, pages_at, pages_of, sequence_of, row_turn, host_turn}
 use Rattle.abstract_run.specs.Given.{AreRows}
@@ -79,7 +79,7 @@ abbrev resting : ℕ → HostRun
 resting done = record { done = done; stores = 0 }
 
 clock_turned : (start : Option (List ℕ)) (clocks : ℕ) (rows : List HostRow) (done number : ℕ) (machine : Host) (words : List ℕ) → AreRows start clocks rows → ShowsHost start rows (resting done) machine words
-    → slice_get rows done ≡ Some (Clock number) → HostTurned start rows (resting done) (resting (done + 1)) words (record { machine = begun machine (Clock number); done = done })
+    → slice_get rows done ≡ Some (Clock number) → HostTurned start rows (resting done) (resting (done + 1)) words (record { machine = row_begun machine (Clock number); done = done })
 clock_turned start clocks rows done number machine words are h at =
     let pages = pages_clock rows done number at in
     record {
@@ -154,11 +154,11 @@ IsWritten start page rows done stores words =
 page_shows : (start page : List ℕ) (rows : List HostRow) (done stores count : ℕ) (words : List ℕ) → 0 < stores → stores < 13 → 0 < done → slice_get rows done ≡ Some (Page page)
     → count ≡ sequence_of (count_of (Some start)) (record { page = pages_at rows done; is_writing = false }) → length words ≡ 24 → slice_index words 23 ≡ clocks_at rows done
     → IsWritten start page rows done stores words → ShowsHost (Some start) rows (storing done stores) (page_machine (Some start) count page stores) words
-page_shows start page rows done stores count words some few begun at count_is wide clock there =
+page_shows start page rows done stores count words some few row_begun at count_is wide clock there =
     record {
       wide = wide;
       within = (let within = slice_get_within rows done (Page page) at in omega arith);
-      begun = begun;
+      begun = row_begun;
       same_start = refl;
       same_count = count_is;
       hand = record { resting = λ none. absurd (omega arith); storing = λ more. (few, refl, (page, at, refl, there.1)) };
@@ -168,7 +168,7 @@ page_shows start page rows done stores count words some few begun at count_is wi
 
 -- the first store: the count is odd now
 page_begins : (start page : List ℕ) (rows : List HostRow) (done : ℕ) (machine : Host) (words : List ℕ) → ShowsHost (Some start) rows (resting done) machine words
-    → slice_get rows done ≡ Some (Page page) → HostTurned (Some start) rows (resting done) (storing done 1) words (record { machine = begun machine (Page page); done = done })
+    → slice_get rows done ≡ Some (Page page) → HostTurned (Some start) rows (resting done) (storing done 1) words (record { machine = row_begun machine (Page page); done = done })
 page_begins start page rows done machine words h at =
     let count : word_with_count (constants_of machine.start) (raised 1 machine.count) ≡ count_word (Some start) (record { page = pages_at rows done; is_writing = true }) =
     rw (h.same_start, h.same_count, raised_once (count_of (Some start)) (pages_at rows done)) refl in
@@ -306,7 +306,7 @@ page_ends start page rows done count words at h before =
 
 -- a page row is taken only where there is a start page
 page_taken : (start : Option (List ℕ)) (page : List ℕ) (rows : List HostRow) (done : ℕ) (machine : Host) (words : List ℕ) → IsRowOf start (Page page) → ShowsHost start rows (resting done) machine words
-    → slice_get rows done ≡ Some (Page page) → HostTurned start rows (resting done) (storing done 1) words (record { machine = begun machine (Page page); done = done })
+    → slice_get rows done ≡ Some (Page page) → HostTurned start rows (resting done) (storing done 1) words (record { machine = row_begun machine (Page page); done = done })
 page_taken None page rows done machine words is h at = absurd is
 page_taken (Some start) page rows done machine words is h at = page_begins start page rows done machine words h at
 

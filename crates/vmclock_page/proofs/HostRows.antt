@@ -9,7 +9,7 @@ use Rattle.clock_gate.specs.declared.trace.HostRow.{HostRow}
 use Rattle.clock_gate.specs.declared.trace.HostRow.TheVariants.{Clock, Page, Disrupt}
 use Rattle.clock_gate.specs.Acts.{after, WereAsked}
 use Rattle.vmclock_page.specs.Rows.{words_left}
-use Rattle.vmclock_page.specs.Host.{Host, IsHost, begun, given, act_of, stores_of, stores_in_hand, row_stores, constants_of, count_after, raised, page_stores}
+use Rattle.vmclock_page.specs.Host.{Host, IsHost, row_begun, given, act_of, stores_of, stores_in_hand, row_stores, constants_of, count_after, raised, page_stores}
 use Rattle.vmclock_page.specs.HostRows.{stores_begun, MakesStores, ComesNearer, stored, LeavesItsWords}
 use Rattle.vmclock_page.proofs.WordLemmas.{items_from, items}
 use Rattle.vmclock_page.proofs.Accepted.{same_constants}
@@ -63,7 +63,7 @@ makes_from host row made (value ∷ values) few asked =
     let rest = makes_from host row (made + 1) values (omega arith) (subst (λ (h : Host). WereAsked act_of given h values) step asked.1) in
     (ap (λ (h : Host). after act_of given h values) step ∙ rest.0 ∙ ap (made_of host row) (omega arith), (let few_left = rest.1 in omega arith))
 
-begun-made : (host : Host) (row : HostRow) → begun host row ≡ made_of host row 0
+begun-made : (host : Host) (row : HostRow) → row_begun host row ≡ made_of host row 0
 begun-made host (Clock number) = refl
 begun-made host (Page words) = refl
 begun-made host Disrupt = refl
@@ -72,7 +72,7 @@ pub makes_stores : MakesStores
 makes_stores host row values asked =
     let begins = begun-made host row in
     let all = makes_from host row 0 values (omega arith) (subst (λ (h : Host). WereAsked act_of given h values) begins asked) in
-    let is : after act_of given (begun host row) values ≡ made_of host row (length values) =
+    let is : after act_of given (row_begun host row) values ≡ made_of host row (length values) =
     ap (λ (h : Host). after act_of given h values) begins ∙ all.0 ∙ ap (made_of host row) (omega arith) in
     record {
       act = ap act_of is ∙ act_of-made host row (length values);
@@ -108,7 +108,7 @@ comes_nearer host value is asked =
     let len = length-in_hand (constants_of host.start) (count_after host.row (host.made + 1) host.count) host.count host.row in
     (record { even = counts.0; small = counts.1; few = omega arith }, omega arith)
 
-pub begins_host : (host : Host) (row : HostRow) → IsHost host → IsHost (begun host row)
+pub begins_host : (host : Host) (row : HostRow) → IsHost host → IsHost (row_begun host row)
 begins_host host row is = record { even = is.even; small = is.small; few = omega arith }
 
 -- ---- the words that a page row leaves

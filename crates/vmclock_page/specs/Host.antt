@@ -62,8 +62,8 @@ abbrev pub new_host : Option (List ℕ) → Host
 new_host start = record { start = start; count = count_of start; row = None; made = 0 }
 
 -- with this row in hand, of which nothing is stored
-abbrev pub begun : Host → HostRow → Host
-begun host row = record host { row = Some row; made = 0 }
+abbrev pub row_begun : Host → HostRow → Host
+row_begun host row = record host { row = Some row; made = 0 }
 
 -- the stores of the row in hand
 abbrev pub stores_of : Host → List Act

@@ -6,7 +6,7 @@ use Rattle.clock_gate.specs.declared.trace.HostRow.{HostRow}
 use Rattle.clock_gate.specs.Acts.{after, WereAsked}
 use Rattle.vmclock_page.specs.Words.{AreWords, word_with_count}
 use Rattle.vmclock_page.specs.Rows.{IsPageRowOf, words_left}
-use Rattle.vmclock_page.specs.Host.{Host, IsHost, begun, given, act_of, stores_left, row_stores, constants_of, count_of, count_after, raised, page_stores}
+use Rattle.vmclock_page.specs.Host.{Host, IsHost, row_begun, given, act_of, stores_left, row_stores, constants_of, count_of, count_after, raised, page_stores}
 
 -- the stores of a row that this host begins
 abbrev pub stores_begun : Host → HostRow → List Act
@@ -23,13 +23,13 @@ row_done host row = record host {
 -- a host that begins this row, and is given these values where it wants to store, makes the row's stores in their order,
 -- and then nothing more
 pub record MakesItsStores (host : Host) (row : HostRow) (values : List ℕ) : Type 0 where
-  pub act : act_of (after act_of given (begun host row) values) ≡ slice_index_or (stores_begun host row) (length values) End
+  pub act : act_of (after act_of given (row_begun host row) values) ≡ slice_index_or (stores_begun host row) (length values) End
   pub few : length values ≤ length (stores_begun host row)
-  pub whole : length values ≡ length (stores_begun host row) → after act_of given (begun host row) values ≡ row_done host row
+  pub whole : length values ≡ length (stores_begun host row) → after act_of given (row_begun host row) values ≡ row_done host row
 
 -- so it is for every host, row and values
 abbrev pub MakesStores : Type 0
-MakesStores = (host : Host) (row : HostRow) (values : List ℕ) → WereAsked act_of given (begun host row) values → MakesItsStores host row values
+MakesStores = (host : Host) (row : HostRow) (values : List ℕ) → WereAsked act_of given (row_begun host row) values → MakesItsStores host row values
 
 -- each store leaves the host where it can stand, with fewer left
 abbrev pub ComesNearer : Type 0

@@ -2,7 +2,7 @@ ghost use Rattle.std.specs.Prelude.{◌≡◌, ◌≢◌, ◌%◌, ◌<◌, slic
 ghost use Rattle.clock_gate.specs.Acts.{IsWithin};
 ghost use Rattle.vmclock_page.specs.Rows.{IsStartPage, IsRowOf};
 ghost use Rattle.vmclock_page.specs.Words.{word_with_count};
-ghost use Rattle.vmclock_page.specs.Host.{IsHost, new_host, begun, act_of, given, IsActFor, stores_left, count_of, constants_of, count_after, page_stores, row_stores};
+ghost use Rattle.vmclock_page.specs.Host.{IsHost, new_host, row_begun, act_of, given, IsActFor, stores_left, count_of, constants_of, count_after, page_stores, row_stores};
 
 use crate::layout::{CLOCK_WORD, COUNT_WORD};
 use crate::words::from_words;
@@ -59,7 +59,7 @@ impl HostMachine {
     pub fn begin(&mut self, row: &HostRow)
         requires ended { act_of self.old ≡ Act.End }
         requires row { IsRowOf self.old.start row.now }
-        ensures value { self.new ≡ begun self.old row.now }
+        ensures value { self.new ≡ row_begun self.old row.now }
         ensures kept { IsHost self.new }
     {
         self.row = Some(*row);

@@ -5,7 +5,7 @@ ghost use Rattle.seqlock.specs.Tries.{SeqlockRead, Unpublished, read_end};
 ghost use Rattle.vmclock_page.specs.Words.{AreWords, word_with_count, count_in_word, constants_in_word};
 ghost use Rattle.vmclock_page.specs.Counting.{count_of_page, page_number_of};
 ghost use Rattle.vmclock_page.specs.Rows.{IsStartPage};
-ghost use Rattle.vmclock_page.specs.Host.{Host, IsHost, begun, raised, count_of};
+ghost use Rattle.vmclock_page.specs.Host.{Host, IsHost, row_begun, raised, count_of};
 ghost use Rattle.vmclock_page.specs.HostRows.{MakesStores, ComesNearer, LeavesItsWords, StartsEven};
 ghost use Rattle.vmclock_page.specs.PageRead.{page_lock};
 ghost use Rattle.vmclock_page.specs.PageTries.{TakesAWord, FollowsItsTries};
@@ -14,7 +14,7 @@ ghost use Rattle.vmclock_page.specs.PageTries.{TakesAWord, FollowsItsTries};
 pub fn host_laws()
     ensures stores { MakesStores }
     ensures nearer { ComesNearer }
-    ensures begins { (host : Host) (row : HostRow) → IsHost host → IsHost (begun host row) }
+    ensures begins { (host : Host) (row : HostRow) → IsHost host → IsHost (row_begun host row) }
     ensures leaves { LeavesItsWords }
 
     // The sequence counts are those of the pages, counted from the start page, and stand in word 1.

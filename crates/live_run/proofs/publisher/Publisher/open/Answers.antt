@@ -1,7 +1,7 @@
 use Rattle.std.proofs.Common.{◌≡◌, ◌+◌, List, Some, refl, sym, ap, ◌∙◌, subst, arith}
 use Rattle.std.specs.Prelude.{is_some}
 use Rattle.status_machine.specs.declared.daemon.Daemon.{Daemon}
-use Rattle.status_machine.specs.Step.{begun}
+use Rattle.status_machine.specs.Step.{daemon_begun}
 use Rattle.live_report.specs.declared.line.Line.{Line}
 use Rattle.live_report.specs.DaemonCalls.{DaemonPlace, OpensNext, CallsNext, DaemonCalls, place_first}
 use Rattle.live_report.specs.LiveRun.{setup_of}
@@ -27,7 +27,7 @@ returns-clause-publishes c =
       poll_is = refl;
       reopens = e.reopens;
       polled_after = refl;
-      daemon_after = ap (λ (d : Daemon). Some d) (value ∙ (λ i. begun (record { start = opening.start; drift = trace.drift; support = c.is_some.ensures i; base = c.base_opened-base.ensures i })));
+      daemon_after = ap (λ (d : Daemon). Some d) (value ∙ (λ i. daemon_begun (record { start = opening.start; drift = trace.drift; support = c.is_some.ensures i; base = c.base_opened-base.ensures i })));
       base_after = c.base_opened-base.ensures;
     } in
     let next : CallsNext trace (place_of old) c.opened_line-line.result after = subst (λ (l : Line). CallsNext trace (place_of old) l after) (sym c.opened_line-line.ensures) opens in
