@@ -144,7 +144,7 @@ class Capture:
     """The lines of a trace; a clock row stands as its two numbers until true time is known."""
 
     def __init__(self, given):
-        self.given, self.clock, self.lines, self.polls = given, Clock(given.clock), [], 0
+        self.given, self.clock, self.lines, self.polls, self.replies = given, Clock(given.clock), [], 0, 0
         self.trusted = TrustedClock(given.truth, given.truth_offset, self.clock) if given.truth else None
         self.chronyd = Chronyd(given)
 
@@ -177,6 +177,7 @@ class Capture:
         sleep_until(moment)
         self.row()
         reply = self.chronyd.ask()
+        self.replies += bool(reply)
         self.lines.append(f"poll,{reply.hex()}")
         self.lines.append("run,d,1" if self.polls else "run,d,5")  # its first clock load, at first after the four of the opening
         self.polls += 1
@@ -194,6 +195,13 @@ class Capture:
     def call(self):
         """A call, done at once."""
         self.lines += ["call,1", "do,c1,1"]
+
+    def warning(self):
+        """What is to be said of a chronyd that answered no poll."""
+        place = self.given.socket or f"{self.given.host}, UDP port {self.given.port}"
+        if self.replies:
+            return ""
+        return f"no poll was answered ({place}): is a chronyd running there, and does its cmdport or bindcmdaddress allow this?"
 
     def text(self):
         """The whole trace."""
@@ -249,6 +257,8 @@ def main():
         check(given)
         capture = Capture(given)
         capture.run()
+        if capture.warning():
+            print(f"capture.py: {capture.warning()}", file=sys.stderr)
         sys.stdout.write(capture.text())
     except Refused as fault:
         print(f"capture.py: {fault}", file=sys.stderr)

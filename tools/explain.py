@@ -301,7 +301,7 @@ def explained(trace_path, report_path, client, call):
 
 def main():
     """The command."""
-    parser = argparse.ArgumentParser(description=__doc__.splitlines()[0])
+    parser = argparse.ArgumentParser(description=__doc__.split("\n\n")[0])
     parser.add_argument("trace")
     parser.add_argument("report")
     parser.add_argument("client", type=int)
