@@ -110,12 +110,20 @@ const LAYOUT_THREE: [(u32, Found, Found, Found); 7] = [
     ),
 ];
 
+// Word 1 with this number, which fits in the layout.
+fn header(layout: Layout, number: u32) -> u64 {
+    match layout {
+        Layout::Two => word1(Layout::Two, number % 65_536),
+        Layout::Three => word1(Layout::Three, number),
+    }
+}
+
 // Each stop at each of these numbers.
 fn each_stop(rt: &impl Abort, alloc: Global, layout: Layout, rows: &[(u32, Found, Found, Found)]) {
     for (number, rested, torn, ended) in rows {
         for stop in 0..11 {
             assert_eq!(rt;
-                completed(alloc, word1(layout, *number), layout, stop),
+                completed(alloc, header(layout, *number), layout, stop),
                 Some(after(stop, *rested, *torn, *ended)),
                 "stop {stop} at {number}"
             );
