@@ -1,5 +1,5 @@
 //! All that a source gives, and all of a text into a sink.
-ghost use Rattle.std.specs.Prelude.{◌≡◌, ◌≤◌, IfOk, OnOk, OnErr, IsErrOf, vec_len};
+ghost use Rattle.std.specs.Prelude.{◌≡◌, ◌<◌, ◌≤◌, length, IfOk, OnOk, OnErr, IsErrOf, vec_len};
 ghost use Rattle.clock_gate.specs.Outside.{Rose, HasCause};
 ghost use Rattle.clock_gate.specs.declared.limits.TheConstants.{INPUT_LIMIT};
 ghost use Rattle.bound_cli.specs.declared.stream.ReadError.TheVariants.{Memory};
@@ -27,6 +27,37 @@ impl From<AllocError> for ReadError {
     }
 }
 
+// A block to read into, of zeros.
+fn block(alloc: Global) -> Result<Vec<u8>, AllocError>
+    ensures { IfOk result (λ block. 0 < vec_len block) }
+{
+    vec![in alloc; 0_u8; BLOCK]
+}
+
+// All bytes of a source, which come through this block.
+fn read_through<S: Source>(
+    alloc: Global,
+    source: &mut S,
+    block: &mut [u8],
+) -> Result<Vec<u8>, ReadError>
+    requires { 0 < length block.old }
+    ensures whole { IfOk result (λ v. TakenWhole (S.left source.old) (S.left source.new) v.items) }
+    ensures short { IfOk result (λ v. vec_len v ≤ INPUT_LIMIT) }
+    ensures too_long { IsErrOf result ReadError.TooLong → TookTooMuch (S.left source.old) (S.left source.new) }
+    ensures later { S.faults source.old ≤ S.faults source.new }
+    ensures failed { IsErrOf result ReadError.Failed → Rose (S.faults source.old) (S.faults source.new) }
+{
+    let mut bytes = Vec::new(alloc);
+    'reading: while bytes.len() <= INPUT_LIMIT {
+        match source.take(block) {
+            Err(Failed) => return Err(ReadError::Failed),
+            Ok(0) => return Ok(bytes),
+            Ok(count) => bytes.extend_from_slice(&block[..count])?,
+        }
+    }
+    Err(ReadError::TooLong)
+}
+
 /// All bytes of a source. `TooLong` comes as soon as one byte more than the limit was taken, `Failed` only where the
 /// source failed.
 pub fn read_all<S: Source>(alloc: Global, source: &mut S) -> Result<Vec<u8>, ReadError>
@@ -36,16 +67,8 @@ pub fn read_all<S: Source>(alloc: Global, source: &mut S) -> Result<Vec<u8>, Rea
     ensures later { S.faults source.old ≤ S.faults source.new }
     ensures failed { IsErrOf result ReadError.Failed → Rose (S.faults source.old) (S.faults source.new) }
 {
-    let mut bytes = Vec::new(alloc);
-    let mut block = vec![in alloc; 0_u8; BLOCK]?;
-    'reading: while bytes.len() <= INPUT_LIMIT {
-        match source.take(&mut block) {
-            Err(Failed) => return Err(ReadError::Failed),
-            Ok(0) => return Ok(bytes),
-            Ok(count) => bytes.extend_from_slice(&block[..count])?,
-        }
-    }
-    Err(ReadError::TooLong)
+    let mut block = block(alloc)?;
+    read_through(alloc, source, &mut block)
 }
 
 /// Puts a whole text into a sink. After a failure some front of it was put.
