@@ -115,6 +115,13 @@ words_given (Clock generation rec) words = Clock generation rec
 words_given (Page generation rec reading read) words = Page generation rec reading read
 words_given (Done answer) words = Done answer
 
+-- so many of the segment's tries fail at once by this word 1, and one is left
+abbrev pub StageFailsOdd : Stage → (header count : ℕ) → Type 0
+StageFailsOdd (Segment read) header count = segment.FailsOdd read header count
+StageFailsOdd (Clock generation rec) header count = ⊥
+StageFailsOdd (Page generation rec reading read) header count = ⊥
+StageFailsOdd (Done answer) header count = ⊥
+
 -- what follows on tries by what they have come to, and on the clock
 abbrev pub followed : List ClockRow → ℕ → Bool → Stage → ℕ → Stage
 followed clock tries support (Segment read) value = after_segment read (segment.end_of read)

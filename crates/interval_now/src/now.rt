@@ -1,5 +1,5 @@
 //! A client call, as a step machine.
-ghost use Rattle.std.specs.Prelude.{◌≡◌, ◌≢◌, ◌≤◌, ◌<◌, ◌+◌, ◌*◌, ℕ, List, length, IfOk, IfSome, IsNone, IsTrue, IsFalse, Some, None, ◌↔◌};
+ghost use Rattle.std.specs.Prelude.{◌≡◌, ◌≢◌, ◌≤◌, ◌<◌, ◌+◌, ◌*◌, ℕ, List, length, replicate, IfOk, IfSome, IsNone, IsTrue, IsFalse, Some, None, ◌↔◌};
 ghost use Rattle.clock_gate.specs.declared.limits.TheConstants.{LAST_MOMENT, MOST_TRIES, MOST_HOST_ROWS};
 ghost use Rattle.clock_gate.specs.Acts.{IsLoadWithin, after};
 ghost use Rattle.clock_gate.specs.ClockRow.{IsClock};
@@ -9,7 +9,7 @@ ghost use Rattle.shm_reader.specs.SegmentTries.{IsGoodLoad, AreGoodLoads};
 ghost use Rattle.shm_reader.specs.SegmentTries as segment;
 ghost use Rattle.vmclock_page.specs.PageRead as page;
 ghost use Rattle.interval_now.specs.Interval.{KeepsEnds};
-ghost use Rattle.interval_now.specs.Call.{started_call, timed, answer_of, act_of, act_at, end_of, given, after_segment, after_clock, after_page, stage_given, tried, words_given, followed, steps_at, steps_left, IsStage, IsEarly, IsRowNumber, IsRowAt, TriesOn, HasEnded, AnswerKeepsEnds, StageKeepsEnds};
+ghost use Rattle.interval_now.specs.Call.{started_call, timed, answer_of, act_of, act_at, end_of, given, after_segment, after_clock, after_page, stage_given, tried, words_given, followed, steps_at, steps_left, IsStage, IsEarly, IsRowNumber, IsRowAt, TriesOn, HasEnded, StageFailsOdd, AnswerKeepsEnds, StageKeepsEnds};
 
 use crate::answers::{Answer, Causality, Interval, Timed};
 use crate::rule::interval;
@@ -266,6 +266,24 @@ fn give_segment(stage: &mut Stage, words: &[u64; 8])
     }
 }
 
+// The segment's tries fail by an odd generation.
+fn fail_segment(stage: &mut Stage, header: u64, most: u64) -> u64
+    requires stage { IsStage stage.old }
+    requires early { IsEarly stage.old }
+    requires ends { StageKeepsEnds stage.old }
+    ensures value { stage.new ≡ words_given stage.old (replicate result header) }
+    ensures stage { IsStage stage.new }
+    ensures early { IsEarly stage.new }
+    ensures ends { StageKeepsEnds stage.new }
+    ensures fails { 0 < result → StageFailsOdd stage.old header result }
+    ensures most { result ≤ most }
+{
+    match stage {
+        Stage::Segment(reader) => reader.fail_odd(header, most),
+        Stage::Clock { .. } | Stage::Page { .. } | Stage::Done(_) => 0,
+    }
+}
+
 impl NowMachine {
     /// A call with so many tries of each read, from 1 to 1,000, and with a page or without one.
     pub fn new(tries: u16, support: bool) -> NowMachine
@@ -326,6 +344,16 @@ impl NowMachine {
         ensures nearer { steps_left self.new < steps_left self.old }
     {
         give_segment(&mut self.stage, words);
+    }
+
+    /// Takes a word 1 with an odd generation as long as a try of the segment is left after it, at most so many times: how many, each of
+    /// which fails a try. None where the generation is even, or a try has begun.
+    pub fn fail_odd(&mut self, header: u64, most: u64) -> u64
+        ensures value { (clock : List ClockRow) → self.new ≡ after act_of (given clock) self.old (replicate result header) }
+        ensures fails { 0 < result → StageFailsOdd self.old.stage header result }
+        ensures most { result ≤ most }
+    {
+        fail_segment(&mut self.stage, header, most)
     }
 
     /// Whether no load comes next: exactly where `next` is `End`.

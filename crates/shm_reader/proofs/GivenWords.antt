@@ -1,15 +1,15 @@
 -- What words 2 to 9 make of a read that wants them next.
-use Rattle.std.proofs.Common.{◌≡◌, ◌≢◌, ℕ, zero, suc, ◌+◌, ◌-◌, ◌*◌, ◌<◌, ◌≤◌, List, [], ◌∷◌, ◌++◌, length, take, drop, refl, ap, sym, ◌∙◌, subst, arith, inl, inr, length-append, length-take, append_assoc, append-nil}
-use Rattle.std.specs.Prelude.{slice_index}
+use Rattle.std.proofs.Common.{◌≡◌, ◌≢◌, ℕ, zero, suc, ◌+◌, ◌-◌, ◌*◌, ◌%◌, ◌<◌, ◌≤◌, List, [], ◌∷◌, ◌++◌, length, take, drop, refl, ap, sym, ◌∙◌, subst, arith, inl, inr, length-append, length-take, append_assoc, append-nil}
+use Rattle.std.specs.Prelude.{slice_index, replicate}
 use Rattle.std.proofs.lemmas.Bool.{cases_lt}
 use Rattle.generation_word.specs.Header.{generation_in}
-use Rattle.clock_gate.specs.declared.act.Act.TheVariants.{Load}
+use Rattle.clock_gate.specs.declared.act.Act.TheVariants.{Load, End}
 use Rattle.clock_gate.specs.Acts.{after}
-use Rattle.seqlock.specs.Tries.{SeqlockRead, Asks, IsCalm, IsStage, progress, steps_at, act_of as act_of_progress}
+use Rattle.seqlock.specs.Tries.{SeqlockRead, Asks, IsCalm, IsStage, IsOfOneTry, attempt, failed_try, progress, steps_at, act_of as act_of_progress}
 use Rattle.seqlock.proofs.Tries as laws
 use Rattle.segment_layout.specs.Words.{IsGoodWord, AreGoodWords}
 use Rattle.shm_reader.specs.SegmentTries.{segment_lock, act_of, given, steps_left, stands, AreGoodLoads}
-use Rattle.shm_reader.proofs.Stands.{at, at_front, stands-word}
+use Rattle.shm_reader.proofs.Stands.{at, at_front, odd_fails, stands-word}
 
 same_load : (a b : ℕ) → Load a ≡ Load b → a ≡ b
 same_load a b e = cc
@@ -168,3 +168,39 @@ module _ (tries left first last loaded : ℕ) (loads words : List ℕ) where
       let single : length read.values ≡ 1 = ap length are in
       subst (λ (xs : List ℕ). TakesAll (at tries left first last loads loaded) (record { tries = tries; left = left; first = first; last = last; values = slice_index loads 0 ∷ xs }) words) (sym (eight_words words eight))
       (record { value = took.value; stage = took.stage; next = ap act_of_progress next; nearer = omega (arith, later, before, single, eight, more) })
+
+-- ---- tries that fail at once
+
+-- so many failed tries, one after another
+failed_odd : (count : ℕ) (read : SeqlockRead) (header : ℕ) → read.values ≡ [] → generation_in header % 2 ≡ 1
+    → after act_of given read (replicate (suc count) header) ≡ record read { left = read.left - suc count; first = generation_in header; last = generation_in header; values = [] }
+failed_odd zero read header none odd = odd_fails read header none odd
+failed_odd (suc count) read header none odd =
+    let one = odd_fails read header none odd in
+    let left : read.left - 1 - suc count ≡ read.left - suc (suc count) = omega arith in
+    ap (λ (r : SeqlockRead). after act_of given r (replicate (suc count) header)) one
+    ∙ failed_odd count (failed_try read (generation_in header) (generation_in header)) header refl odd
+    ∙ ap (λ (n : ℕ). record read { left = n; first = generation_in header; last = generation_in header; values = [] }) left
+
+pub fails_odd : (count : ℕ) (read : SeqlockRead) (header : ℕ) → 0 < count → read.values ≡ [] → generation_in header % 2 ≡ 1
+    → record read { left = read.left - count; first = generation_in header; last = generation_in header; values = [] } ≡ after act_of given read (replicate count header)
+fails_odd zero read header some none odd = absurd (omega arith)
+fails_odd (suc count) read header some none odd = sym (failed_odd count read header none odd)
+
+-- one that has begun no try and has one left
+pub begins_again : (read : SeqlockRead) → 0 < read.left → read.values ≡ [] → IsStage segment_lock read × (act_of read ≡ Load 1)
+begins_again read some none =
+    (record { of_one_try = subst (λ (values : List ℕ). IsOfOneTry (attempt segment_lock values)) (sym none) tt; none_after = λ e. none }, ap act_of_progress (laws.asks-first segment_lock read some none))
+
+-- the machine after so many failed tries
+pub stands_failed : (tries left first last loaded count header generation : ℕ) (loads : List ℕ) → loaded ≡ 0 → 0 < count → generation ≡ generation_in header → generation % 2 ≡ 1
+    → stands tries (left - count) generation generation loaded loads ≡ after act_of given (stands tries left first last loaded loads) (replicate count header)
+stands_failed tries left first last loaded count header generation loads none some is odd =
+    let odd_header : generation_in header % 2 ≡ 1 = omega (arith, is, odd) in
+    subst (λ (n : ℕ). stands tries (left - count) generation generation n loads ≡ after act_of given (stands tries left first last n loads) (replicate count header)) (sym none)
+    (subst (λ (g : ℕ). stands tries (left - count) g g 0 loads ≡ after act_of given (stands tries left first last 0 loads) (replicate count header)) (sym is)
+    (fails_odd count (stands tries left first last 0 loads) header some refl odd_header))
+
+pub stands_again : (tries left first last loaded : ℕ) (loads : List ℕ) → loaded ≡ 0 → 0 < left → act_of (stands tries left first last loaded loads) ≢ End
+stands_again tries left first last loaded loads none some ends =
+    cc (sym (begins_again (stands tries left first last 0 loads) some refl).1 ∙ (ap (λ (n : ℕ). act_of (stands tries left first last n loads)) (sym none) ∙ ends))

@@ -1,6 +1,6 @@
 -- A read of the segment in so many tries. A try loads word 1, words 2 to 9 in order, and word 1 again. This project's
 -- own, after ClockBound's PROTOCOL.
-use Rattle.std.specs.Prelude.{ℕ, ◌+◌, ◌<◌, List, ◌∷◌, length, slice_index, take, Option, ◌==◌}
+use Rattle.std.specs.Prelude.{◌≡◌, ℕ, ◌+◌, ◌%◌, ◌<◌, List, [], ◌∷◌, length, slice_index, take, Option, ◌==◌}
 use Rattle.std.specs.Option.{option_map}
 use Rattle.generation_word.specs.Header.{generation_in}
 use Rattle.clock_gate.specs.declared.act.Act.{Act}
@@ -60,3 +60,9 @@ IsGoodLoad End value = Unit {0}
 -- the values can stand in words 2 to 9
 abbrev pub AreGoodLoads : List ℕ → Type 0
 AreGoodLoads values = (k : ℕ) → k < length values → IsGoodWord (2 + k) (slice_index values k)
+
+-- so many tries of this read fail at once by this word 1, and one is left: none has begun, and its generation is odd
+pub record FailsOdd (read : SeqlockRead) (header count : ℕ) : Type 0 where
+  pub none : read.values ≡ []
+  pub odd : generation_in header % 2 ≡ 1
+  pub left : count < read.left

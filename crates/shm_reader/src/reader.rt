@@ -1,10 +1,10 @@
 //! The step machine that reads the segment.
-ghost use Rattle.std.specs.Prelude.{◌≡◌, ◌≢◌, ◌≤◌, ◌<◌, [], ◌∷◌, length, take, drop, IsNone, IsTrue, ◌↔◌};
+ghost use Rattle.std.specs.Prelude.{◌≡◌, ◌≢◌, ◌≤◌, ◌<◌, [], ◌∷◌, length, take, drop, replicate, IsNone, IsTrue, ◌↔◌};
 ghost use Rattle.clock_gate.specs.declared.limits.TheConstants.{MOST_TRIES};
 ghost use Rattle.clock_gate.specs.Acts.{IsLoadWithin, after};
 ghost use Rattle.segment_layout.specs.Words.{AreGoodWords};
 ghost use Rattle.seqlock.specs.Tries.{started, failed_try, with_value, IsStage};
-ghost use Rattle.shm_reader.specs.SegmentTries.{segment_lock, record_in, act_of, given, end_of, steps_left, IsGoodLoad, AreGoodLoads};
+ghost use Rattle.shm_reader.specs.SegmentTries.{segment_lock, record_in, act_of, given, end_of, steps_left, IsGoodLoad, AreGoodLoads, FailsOdd};
 ghost use Rattle.generation_word.specs.Header.{generation_in};
 
 use crate::seen::Seen;
@@ -122,6 +122,33 @@ impl SegmentReader {
         let [w2, w3, w4, w5, w6, w7, w8, w9] = *words;
         self.loads = [header, w2, w3, w4, w5, w6, w7, w8, w9, 0];
         self.loaded = 9;
+    }
+
+    /// Takes a word 1 with an odd generation as long as a try is left after it, at most so many times: how many, each of which fails a try.
+    /// None where the generation is even, or a try has begun.
+    pub fn fail_odd(&mut self, header: u64, most: u64) -> u64
+        requires open { act_of self.old ≢ Act.End }
+        ensures value { self.new ≡ after act_of given self.old (replicate result header) }
+        ensures stage { IsStage segment_lock self.new }
+        ensures open { act_of self.new ≢ Act.End }
+        ensures fails { 0 < result → FailsOdd self.old header result }
+        ensures most { result ≤ most }
+    {
+        if self.loaded != 0 {
+            return 0;
+        }
+        let generation = generation_in(header);
+        if generation % 2 != 1 {
+            return 0;
+        }
+        let fails = u64::from(self.left - 1).min(most);
+        if fails == 0 {
+            return 0;
+        }
+        self.left -= fails as u16;
+        self.first = generation;
+        self.last = generation;
+        fails
     }
 
     // The first value of a try: an odd generation fails it.

@@ -12,4 +12,5 @@ pub mod ShowsClient
 pub mod ShowsDaemon
 pub mod Shows
 pub mod SharedReady
+pub mod Leaps
 pub mod WordsShow
