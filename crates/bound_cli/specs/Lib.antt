@@ -8,4 +8,6 @@ pub mod OrderReport
 pub mod Output
 pub mod Serve
 pub mod Stream
+pub mod Workers
+pub mod ServeThreads
 pub mod Headline

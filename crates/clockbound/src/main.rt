@@ -1,13 +1,15 @@
-//! The program: the words of the command line and the standard streams go to the top call, and its answer becomes
-//! a text on standard error and an exit status.
+//! The program: the words of the command line and the standard streams go to the top call, of `threads` to its own, and the answer
+//! becomes a text on standard error and an exit status.
 #![tactic(auto)]
 
-use bound_cli::{Status, serve};
-use clock_gate::{StdSink, StdSource};
+use bound_cli::{Served, Status, serve, serve_threads};
+use clock_gate::{NoGate, StdSink, StdSource};
 use std::alloc::{AllocError, Global};
 use std::env::{Env, FillError};
 use std::io;
 use std::process::ExitCode;
+use std::sync::Wait;
+use std::thread::Threads;
 
 // No word that a command allows is longer.
 const LONGEST_WORD: usize = 64;
@@ -35,12 +37,31 @@ fn words(rt: &HostRuntime) -> Result<Vec<String>, AllocError> {
     Ok(words)
 }
 
-fn run(rt: &HostRuntime) -> Status {
+// Whether the first word is `threads`.
+fn is_threads(words: &[String]) -> bool {
+    match words {
+        [] => false,
+        [first, ..] => first.as_str() == "threads",
+    }
+}
+
+fn run<R: Threads + Wait + Sync>(rt: &HostRuntime, threads: &R) -> Status {
     let Ok(words) = words(rt) else {
         return Status::Memory;
     };
     let mut source = StdSource::new(rt.reader());
     let mut sink = StdSink::new(io::writer(rt));
+    if is_threads(words.as_slice()) {
+        let Served { status, .. } = serve_threads(
+            threads,
+            rt.alloc(),
+            &words,
+            &mut source,
+            &mut sink,
+            &NoGate,
+        );
+        return status;
+    }
     serve(rt.alloc(), &words, &mut source, &mut sink)
 }
 
@@ -71,7 +92,7 @@ fn code(status: Status) -> u8 {
 }
 
 fn main(rt: HostRuntime) -> ExitCode {
-    let status = run(&rt);
+    let status = run(&rt, &rt);
     // What standard error can't take is lost: the exit status tells the same.
     let _ = report(&rt, status);
     ExitCode::from(code(status))

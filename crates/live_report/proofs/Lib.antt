@@ -19,5 +19,8 @@ pub mod PageAfter
 pub mod AnswersShown
 pub mod ClientsShown
 pub mod ReportText
+pub mod ReportLines
 pub mod CallsMade
+pub mod Clients
+pub mod FewLines
 pub mod LiveLawful

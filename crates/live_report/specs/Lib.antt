@@ -2,4 +2,5 @@ pub mod DaemonCalls
 pub mod ClientCalls
 pub mod LiveRun
 pub mod LiveReport
+pub mod Counted
 pub mod LiveLaws

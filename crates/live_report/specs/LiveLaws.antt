@@ -1,5 +1,5 @@
 -- What holds of every run of a trace.
-use Rattle.std.specs.Prelude.{◌≡◌, ℕ, ◌<◌, List, [], ◌∷◌, ◌++◌, length, Option, Some, None}
+use Rattle.std.specs.Prelude.{◌≡◌, ℕ, ◌<◌, ◌≤◌, List, [], ◌∷◌, ◌++◌, length, Option, Some, None}
 use Rattle.std.specs.List.{range_with_len}
 use Rattle.clock_gate.specs.declared.clock_row.ClockRow.{ClockRow}
 use Rattle.clock_gate.specs.declared.trace.HostRow.{HostRow}
@@ -17,6 +17,7 @@ use Rattle.abstract_run.specs.Given.{IsGiven}
 use Rattle.writer_reopen.specs.declared.polled.Polled.{Polled}
 use Rattle.writer_reopen.specs.declared.polled.Polled.TheVariants as polls
 use Rattle.lawful_report.specs.Lawful.{IsLawfulReport}
+use Rattle.live_report.specs.declared.limits.TheConstants.{MOST_LINES}
 use Rattle.live_report.specs.declared.line.Line.{Line}
 use Rattle.live_report.specs.declared.line.Line.TheVariants as lines
 use Rattle.lawful_report.specs.Composed.{tries_of_client}
@@ -32,6 +33,10 @@ abbrev pub LiveReportsAreLawful : Type 0
 LiveReportsAreLawful =
     (trace : Trace) (lines : List Line) (host daemon : SeatView) (clients : List SeatView) → IsGiven trace → IsRunOf trace lines host daemon clients → length trace.polls < period_of trace.layout
     → IsLawfulReport trace (report_of trace lines)
+
+-- there are few lines
+abbrev pub RunsHaveFewLines : Type 0
+RunsHaveFewLines = (trace : Trace) (lines : List Line) (host daemon : SeatView) (clients : List SeatView) → IsGiven trace → IsRunOf trace lines host daemon clients → length lines ≤ MOST_LINES
 
 -- ---- the history
 

@@ -6,8 +6,13 @@
 //! that of the lines. No thread stands here: whoever makes such a run, makes a lawful report.
 #![tactic(auto)]
 
+mod counts;
 mod laws;
+mod limits;
 mod line;
+mod printing;
 
 pub use laws::live_laws;
+pub use limits::MOST_LINES;
 pub use line::Line;
+pub use printing::report;

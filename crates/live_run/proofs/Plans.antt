@@ -1,8 +1,7 @@
 -- What each client begins with.
-use Rattle.std.proofs.Common.{◌≡◌, ◌≢◌, ℕ, ◌+◌, ◌≤◌, Bool, true, false, cond, List, [], ◌∷◌, ◌++◌, length, refl, sym, ap, ◌∙◌, subst, ne_eqb, arith}
+use Rattle.std.proofs.Common.{◌≡◌, ◌≢◌, ℕ, ◌+◌, ◌≤◌, Bool, true, false, List, [], ◌∷◌, ◌++◌, length, refl, sym, ap, ◌∙◌, subst, ne_eqb, arith}
 use Rattle.std.specs.Prelude.{All, ◌==◌, if◌then◌else◌, vec_len}
 use Rattle.std.specs.List.{filter}
-use Rattle.std.proofs.lemmas.List.{length-map}
 use Rattle.std.proofs.lemmas.List.Elements.{All-map, All-filter, All-weaker}
 use Rattle.clock_gate.specs.declared.limits.TheConstants.{MOST_CLIENTS, MOST_TRIES}
 use Rattle.clock_gate.specs.declared.trace.CallRow.{CallRow}
@@ -17,6 +16,7 @@ use Rattle.segment_rule.specs.Calls.{ClientState}
 use Rattle.lawful_report.specs.Composed.{tries_of_client}
 use Rattle.live_report.specs.ClientCalls.{client_first, client_start}
 use Rattle.live_report.specs.LiveRun.{setup_of}
+use Rattle.live_report.proofs.Clients.{tries_few}
 use Rattle.live_run.specs.declared.workers.Plan.{Plan}
 use Rattle.live_run.specs.Dealt.{IsPlan, ArePlans, CanSit, IsReady}
 use Rattle.live_run.proofs.DaemonLines.{clock_moments}
@@ -34,20 +34,6 @@ plans_less rows number (q ∷ plans) p are =
     let same : number + 1 + length plans ≡ number + length (q ∷ plans) = omega arith in
     let later = plans_less rows (number + 1) plans p are.1 in
     ((are.0, later.0), subst (λ (n : ℕ). IsPlan rows n p) same later.1)
-
-filter-few : {X : Type 0} (p : X → Bool) (xs : List X) → length (filter p xs) ≤ length xs
-filter-few p [] = omega arith
-filter-few {X = X} p (x ∷ xs) = by (p x) (filter p xs) (filter-few p xs)
-  where
-    by : (b : Bool) (ys : List X) → length ys ≤ length xs → length (cond b (x ∷ ys) ys) ≤ length (x ∷ xs)
-    by true ys few = omega (arith, few)
-    by false ys few = omega (arith, few)
-
-pub tries_few : (rows : List CallRow) (client : ℕ) → length (tries_of_client rows client) ≤ length rows
-tries_few rows client =
-    let same : length (tries_of_client rows client) ≡ length (filter (λ (row : CallRow). row.client == client) rows) = length-map (filter (λ (row : CallRow). row.client == client) rows) (λ (row : CallRow). row.tries) in
-    let few = filter-few (λ (row : CallRow). row.client == client) rows in
-    omega (arith, same, few)
 
 tries_fit : (trace : Trace) (client : ℕ) → IsLawfulTrace trace → All (IsFrom 1 MOST_TRIES) (tries_of_client trace.calls client)
 tries_fit trace client lawful =

@@ -2,7 +2,7 @@ use Rattle.std.proofs.Common.{rules, List, ap, ◌∙◌, subst, arith}
 use Rattle.clock_gate.specs.declared.trace.CallRow.{CallRow}
 use Rattle.live_run.specs.Dealt.{ArePlans}
 use Rattle.feed_queue.specs.Ends.{End}
-use Rattle.live_run.proofs.Begins.{clients_within}
+use Rattle.live_report.proofs.Clients.{clients_within}
 use Rattle.live_run.proofs.room.room_for.Goals as goal
 
 pub plans-requires : goal.plans-requires

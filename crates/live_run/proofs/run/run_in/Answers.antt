@@ -2,7 +2,7 @@ use Rattle.std.proofs.Common.{rules, ◌≡◌, drop, refl, ap, ◌∙◌}
 use Rattle.segment_views.specs.Views.{SeatView}
 use Rattle.live_report.specs.LiveRun.{part_after_rows, host_first, setup_of}
 use Rattle.live_run.specs.Publishing.{place_of}
-use Rattle.live_run.proofs.Begins.{clients_within}
+use Rattle.live_report.proofs.Clients.{clients_within}
 use Rattle.live_run.proofs.Dealing.{worked_off}
 use Rattle.live_run.proofs.run.run_in.Goals as goal
 

@@ -1,0 +1,107 @@
+//! What the lines of a run count.
+ghost use Rattle.std.specs.Prelude.{◌≡◌, ◌≤◌, ◌+◌, ℕ, length};
+ghost use Rattle.lawful_report.specs.Lawful.{no_counts, one_answer, one_publication, one_time};
+ghost use Rattle.live_report.specs.declared.limits.TheConstants.{MOST_LINES};
+ghost use Rattle.live_report.specs.Counted.{AreUpTo};
+ghost use Rattle.live_report.specs.LiveReport.{line_counted, lines_counted, poll_counted};
+
+use crate::line::Line;
+use clock_gate::ClockStatus;
+use interval_now::Answer;
+use lawful_report::Counts;
+use writer_reopen::Polled;
+
+fn one_time(counts: Counts, status: ClockStatus) -> Counts
+    requires { AreUpTo MOST_LINES counts }
+    ensures value { result ≡ one_time status counts }
+    ensures next { (most : ℕ) → AreUpTo most counts → AreUpTo (most + 1) result }
+{
+    let mut counts = counts;
+    counts.answers += 1;
+    counts.times += 1;
+    match status {
+        ClockStatus::Unknown => counts.unknown += 1,
+        ClockStatus::Synchronized => counts.synchronized += 1,
+        ClockStatus::FreeRunning => counts.free_running += 1,
+        ClockStatus::Disrupted => counts.disrupted += 1,
+    }
+    counts
+}
+
+fn one_untimed(counts: Counts) -> Counts
+    requires { AreUpTo MOST_LINES counts }
+    ensures value { result ≡ record counts { answers = counts.answers + 1 } }
+    ensures next { (most : ℕ) → AreUpTo most counts → AreUpTo (most + 1) result }
+{
+    let mut counts = counts;
+    counts.answers += 1;
+    counts
+}
+
+fn one_answer(counts: Counts, answer: &Answer) -> Counts
+    requires { AreUpTo MOST_LINES counts }
+    ensures value { result ≡ one_answer answer.now counts }
+    ensures next { (most : ℕ) → AreUpTo most counts → AreUpTo (most + 1) result }
+{
+    match answer {
+        Answer::Time(timed) => one_time(counts, timed.interval.status),
+        Answer::Busy { .. } => one_untimed(counts),
+        Answer::NotInitialized => one_untimed(counts),
+        Answer::PageBusy { .. } => one_untimed(counts),
+        Answer::Causality(_) => one_untimed(counts),
+    }
+}
+
+fn one_publication(counts: Counts) -> Counts
+    requires { AreUpTo MOST_LINES counts }
+    ensures value { result ≡ one_publication counts }
+    ensures next { (most : ℕ) → AreUpTo most counts → AreUpTo (most + 1) result }
+{
+    let mut counts = counts;
+    counts.publications += 1;
+    counts
+}
+
+fn poll_counted(counts: Counts, polled: &Polled) -> Counts
+    requires { AreUpTo MOST_LINES counts }
+    ensures value { result ≡ poll_counted counts polled.now }
+    ensures next { (most : ℕ) → AreUpTo most counts → AreUpTo (most + 1) result }
+{
+    match polled {
+        Polled::Published { .. } => one_publication(counts),
+        Polled::Skipped { .. } => counts,
+        Polled::Stopped { .. } => counts,
+    }
+}
+
+fn line_counted(counts: Counts, line: &Line) -> Counts
+    requires { AreUpTo MOST_LINES counts }
+    ensures value { result ≡ line_counted counts line.now }
+    ensures next { (most : ℕ) → AreUpTo most counts → AreUpTo (most + 1) result }
+{
+    match line {
+        Line::Opened { .. } => counts,
+        Line::Polled { polled, .. } => poll_counted(counts, polled),
+        Line::Answered { answer, .. } => one_answer(counts, answer),
+    }
+}
+
+/// The counts of these lines.
+pub(crate) fn counts_of(lines: &[Line]) -> Counts
+    requires { length lines.now ≤ MOST_LINES }
+    ensures { result ≡ lines_counted no_counts lines.now }
+{
+    let mut counts = Counts {
+        publications: 0,
+        answers: 0,
+        times: 0,
+        unknown: 0,
+        synchronized: 0,
+        free_running: 0,
+        disrupted: 0,
+    };
+    'counting: for line in lines {
+        counts = line_counted(counts, line);
+    }
+    counts
+}
