@@ -1,1 +1,2 @@
 pub mod Publisher
+pub mod Leaps

@@ -1,4 +1,4 @@
-ghost use Rattle.std.specs.Prelude.{◌≡◌, ◌≢◌, ℕ, ◌+◌, ◌*◌, ◌<◌, ◌≤◌, slice_index};
+ghost use Rattle.std.specs.Prelude.{◌≡◌, ◌≢◌, ℕ, ◌+◌, ◌*◌, ◌<◌, ◌≤◌, length, slice_index};
 ghost use Rattle.clock_gate.specs.Acts.{IsStoreWithin};
 ghost use Rattle.clock_gate.specs.declared.act.Act.TheVariants.{End};
 ghost use Rattle.clock_gate.specs.declared.limits.TheConstants.{MOST_STORES};
@@ -7,10 +7,11 @@ ghost use Rattle.generation_word.specs.Numbering.{odd_after, even_after};
 ghost use Rattle.generation_word.specs.Header.{word1_of};
 ghost use Rattle.segment_layout.specs.Words.{record_words, IsGoodWord};
 ghost use Rattle.shm_writer.specs.Publisher.{new_publishing, publishing_act, publishing_given, stores_left, IsGoodStore};
+ghost use Rattle.shm_writer.specs.Leaps.{MakesStores};
 
 use clock_gate::Act;
 use generation_word::{Layout, next_pair, word1};
-use segment_layout::{Record, data_word};
+use segment_layout::{Record, data_word, to_words};
 use std::marker::Model;
 
 /// The publication of one record as a step machine: ten stores, and then the end.
@@ -77,6 +78,23 @@ impl Publisher {
         self.made += 1;
     }
 
+    /// Takes it that all stores but the last were made, of which none was made before: the values that words 1 to 9 were given.
+    pub fn give_nine(&mut self) -> [u64; 9]
+        requires { self.old.made ≡ 0 }
+        // The same as one after another.
+        ensures stores { MakesStores publishing_act publishing_given 1 result self.old self.new }
+        ensures nine { length result ≡ 9 }
+        ensures given { self.new ≡ record self.old { made = 9 } }
+    {
+        self.made = 9;
+        let [_, header, w2, w3, w4, w5, w6, w7, w8, w9] = to_words(
+            &self.rec,
+            self.layout,
+            self.odd(),
+        );
+        [header, w2, w3, w4, w5, w6, w7, w8, w9]
+    }
+
     /// The number of stores made, from 0 to 10.
     pub fn done(&self) -> u8
         ensures value { result ≡ self.now.made }
@@ -93,10 +111,17 @@ impl Publisher {
         next_pair(self.layout, self.generation).1
     }
 
+    fn odd(&self) -> u32
+        ensures value { result ≡ odd_after self.now.generation }
+        ensures most { result ≤ 2 * period_of self.now.layout + 1 }
+    {
+        next_pair(self.layout, self.generation).0
+    }
+
     fn odd_header(&self) -> u64
         ensures { result ≡ word1_of self.now.layout (odd_after self.now.generation) }
     {
-        word1(self.layout, next_pair(self.layout, self.generation).0)
+        word1(self.layout, self.odd())
     }
 
     fn even_header(&self) -> u64

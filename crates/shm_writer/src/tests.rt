@@ -67,6 +67,23 @@ fn ten_stores_publish_a_record(rt: HostRuntime) -> Result<(), Fail> {
 }
 
 #[test]
+fn stores_at_once_are_those_one_after_another(rt: HostRuntime) -> Result<(), Fail> {
+    let rec = record().ok_or("its bounds are kept")?;
+    for (layout, generation) in [
+        (Layout::Two, 0),
+        (Layout::Two, 65_535),
+        (Layout::Three, 65_534),
+    ] {
+        let mut publisher = Publisher::begin(&rec, layout, generation);
+        let (words, next) = words_after(9, publisher);
+        assert_eq!(rt; publisher.give_nine()[..], words[1..], "after {generation}");
+        assert_eq!(rt; publisher.next(), next, "after {generation}");
+        assert_eq!(rt; publisher.done(), 9, "after {generation}");
+    }
+    Ok(())
+}
+
+#[test]
 fn stores_are_counted(rt: HostRuntime) -> Result<(), Fail> {
     let mut publisher = Publisher::begin(&record().ok_or("its bounds are kept")?, Layout::Two, 0);
     for made in 0..10 {

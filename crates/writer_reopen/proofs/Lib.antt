@@ -4,5 +4,6 @@ pub mod Images
 pub mod InOrder
 pub mod Openings
 pub mod Polls
+pub mod Leaps
 pub mod OpeningLaws
 pub mod Found

@@ -1,8 +1,10 @@
-ghost use Rattle.std.specs.Prelude.{◌≡◌, ◌≢◌, ◌↔◌, ◌+◌, ◌*◌, ◌<◌, ◌≤◌, length, Some, None, is_some, IsTrue, IsSome, IfSome};
+ghost use Rattle.std.specs.Prelude.{◌≡◌, ◌≢◌, ◌↔◌, ◌+◌, ◌*◌, ◌<◌, ◌≤◌, List, length, Some, None, is_some, IsTrue, IsSome, IsNone, IfSome};
 ghost use Rattle.clock_gate.specs.declared.act.Act.TheVariants.{Load, End};
 ghost use Rattle.clock_gate.specs.declared.limits.TheConstants.{MOST_DRIFT, MOST_STORES, MOST_TRIES};
 ghost use Rattle.generation_word.specs.Layout.{period_of};
 ghost use Rattle.status_machine.specs.Poll.{BaseFits};
+ghost use Rattle.clock_gate.specs.declared.clock_row.ClockRow.{ClockRow};
+ghost use Rattle.shm_writer.specs.Leaps.{MakesStores};
 ghost use Rattle.writer_reopen.specs.declared.stage.TheConstants.{CLOCK_WORD};
 ghost use Rattle.writer_reopen.specs.Progress.{end_of};
 ghost use Rattle.vmclock_page.specs.PageRead.{act_of as page_act, end_of as page_end};
@@ -12,7 +14,7 @@ ghost use Rattle.writer_reopen.specs.PollMachine.{new_polling, polling_act, poll
 use crate::order::Order;
 use crate::polled::Polled;
 use crate::stage::{CLOCK_WORD, Stage};
-use crate::steps::give_stage;
+use crate::steps::{give_stage, nine_stage};
 use crate::storing::{storing_act, storing_end, storing_has_ended};
 use clock_gate::{Act, ClockRow};
 use generation_word::Layout;
@@ -105,6 +107,17 @@ impl PollMachine {
     {
         let PollMachine { order, stage } = self;
         give_stage(order, stage, value, clock);
+    }
+
+    /// Takes it that all stores but the last were made, where they come next and no stop is set: the values that words 1 to 9 were given.
+    /// `None`, and nothing is taken, where it wants something else, or a stop is set.
+    pub fn give_nine(&mut self) -> Option<[u64; 9]>
+        // The same as one after another.
+        ensures stores { IfSome result (λ values. (clock : List ClockRow) → MakesStores polling_act (polling_given clock) 1 values self.old self.new) }
+        ensures none { IsNone result → self.new ≡ self.old }
+    {
+        let PollMachine { order, stage } = self;
+        nine_stage(order, stage)
     }
 
     /// Whether it wants no further step: exactly where `next` is `End`. No word of the record is made.

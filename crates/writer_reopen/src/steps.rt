@@ -1,18 +1,21 @@
 //! What one more value makes of each stage of a poll.
-ghost use Rattle.std.specs.Prelude.{◌≡◌, ◌≢◌, ◌≤◌, ◌<◌, ◌+◌, ◌-◌, ◌*◌, true, length, is_some, IfSome};
+ghost use Rattle.std.specs.Prelude.{◌≡◌, ◌≢◌, ◌≤◌, ◌<◌, ◌+◌, ◌-◌, ◌*◌, true, List, length, is_some, IfSome, IsNone};
 ghost use Rattle.clock_gate.specs.declared.act.Act.TheVariants.{Load, End};
 ghost use Rattle.clock_gate.specs.declared.limits.TheConstants.{LAST_MOMENT, MOST_STORES};
 ghost use Rattle.seqlock.specs.Tries.{IsStage, steps_left};
 ghost use Rattle.vmclock_page.specs.PageRead.{page_lock, act_of, given, end_of};
 ghost use Rattle.shm_writer.specs.Publisher.{publishing_given};
+ghost use Rattle.shm_writer.specs.Leaps.{MakesStores};
+ghost use Rattle.clock_gate.specs.declared.clock_row.ClockRow.{ClockRow};
 ghost use Rattle.writer_reopen.specs.declared.stage.TheConstants.{CLOCK_WORD};
 ghost use Rattle.writer_reopen.specs.Progress.{act_of as wanted_act};
 ghost use Rattle.writer_reopen.specs.Poll.{AreRows, reading_at, marker_seen, sequence_seen, poll_for, taken_for, storing_of};
 ghost use Rattle.status_machine.specs.Base.{base_number};
-ghost use Rattle.writer_reopen.specs.PollMachine.{stage_asked, stage_looked, stage_taken, stage_given, stage_progress, IsBeforeStores, IsUpdate, IsPollStage, stage_steps, DaemonFits, OrderFits, StageFits};
+ghost use Rattle.writer_reopen.specs.PollMachine.{polling_act, polling_given, stage_asked, stage_looked, stage_taken, stage_given, stage_progress, IsBeforeStores, IsUpdate, IsPollStage, stage_steps, DaemonFits, OrderFits, StageFits};
 
 use crate::order::Order;
 use crate::stage::{Sight, Stage, Taken};
+use crate::storing::store_nine;
 use clock_gate::{ClockRow, Reading, reading};
 use segment_layout::Publication;
 use shm_writer::Publisher;
@@ -104,6 +107,21 @@ fn store(order: &Order, taken: &Taken, publisher: &mut Publisher, value: u64)
     ensures nearer { MOST_STORES - publisher.new.made < MOST_STORES - publisher.old.made }
 {
     publisher.give(value);
+}
+
+// All stores but the last at once, where they come next and no stop is set.
+pub(crate) fn nine_stage(order: &Order, stage: &mut Stage) -> Option<[u64; 9]>
+    requires stage { IsPollStage order.now stage.old }
+    requires stage_fits { StageFits stage.old }
+    ensures stores { IfSome result (λ values. (clock : List ClockRow) → MakesStores polling_act (polling_given clock) 1 values (record { order = order.now; stage = stage.old }) (record { order = order.now; stage = stage.new })) }
+    ensures none { IsNone result → stage.new ≡ stage.old }
+    ensures stage { IsPollStage order.now stage.new }
+    ensures fits { StageFits stage.new }
+{
+    match stage {
+        Stage::Storing(taken, publisher) => store_nine(order, taken, publisher),
+        Stage::Asking | Stage::Looking(_, _) | Stage::Taking(_, _) => None,
+    }
 }
 
 // What one more value makes of a stage before the stores.

@@ -1,7 +1,9 @@
 //! The stores of a poll, cut at the stop.
-ghost use Rattle.std.specs.Prelude.{◌≡◌, ◌↔◌, IsTrue, Some, None, ◌==◌, if◌then◌else◌, IfSome};
+ghost use Rattle.std.specs.Prelude.{◌≡◌, ◌↔◌, IsTrue, Some, None, ◌==◌, if◌then◌else◌, IfSome, IsNone};
 ghost use Rattle.clock_gate.specs.declared.act.Act.TheVariants.{End};
 ghost use Rattle.clock_gate.specs.declared.limits.TheConstants.{MOST_STORES};
+ghost use Rattle.shm_writer.specs.Publisher.{publishing_act, publishing_given};
+ghost use Rattle.shm_writer.specs.Leaps.{MakesStores};
 ghost use Rattle.writer_reopen.specs.declared.polled.Polled.TheVariants.{Published, Stopped};
 ghost use Rattle.writer_reopen.specs.Progress.{act_of, end_of};
 ghost use Rattle.writer_reopen.specs.Poll.{storing_of};
@@ -36,6 +38,26 @@ pub(crate) fn storing_has_ended(order: &Order, taken: &Taken, publisher: &Publis
         return true;
     }
     publisher.done() == MOST_STORES
+}
+
+// All stores but the last at once, where none is made yet and no stop is set: the values that words 1 to 9 were given.
+pub(crate) fn store_nine(
+    order: &Order,
+    taken: &Taken,
+    publisher: &mut Publisher,
+) -> Option<[u64; 9]>
+    requires { IsUpdate order.now taken.now publisher.old }
+    ensures stores { IfSome result (λ values. (order.now.stop ≡ None) × MakesStores publishing_act publishing_given 1 values publisher.old publisher.new) }
+    ensures none { IsNone result → publisher.new ≡ publisher.old }
+    ensures update { IsUpdate order.now taken.now publisher.new }
+{
+    if order.stop.is_some() {
+        return None;
+    }
+    if publisher.done() != 0 {
+        return None;
+    }
+    Some(publisher.give_nine())
 }
 
 // What was published, or where the daemon stopped.

@@ -165,6 +165,55 @@ fn a_stop_leaves_the_stores_before_it(rt: HostRuntime) -> Result<(), Fail> {
     Ok(())
 }
 
+// A poll at generation 0 that has taken its reply, with this stop.
+fn taken(stop: Option<u8>) -> PollMachine
+    requires { IfSome stop (λ s. s ≤ 10) }
+{
+    let clock = clock();
+    let daemon = Daemon::resume(&Start::Fresh, 50_000, false, 0);
+    let mut machine = PollMachine::begin(daemon, Layout::Two, 0, 1, hear(&REPLY), stop, 3);
+    for row in 1..3 {
+        if machine.next() == Act::Load(23) {
+            machine.give(row, &clock);
+        }
+    }
+    machine
+}
+
+#[test]
+fn stores_are_made_at_once_where_no_stop_is_set(rt: HostRuntime) {
+    for (stop, values) in [
+        (
+            None,
+            Some([
+                word1(Layout::Two, 1),
+                2,
+                0,
+                1_002,
+                0,
+                244_142,
+                0,
+                0x0000_0001_0000_c350,
+                0,
+            ]),
+        ),
+        (Some(0), None),
+        (Some(9), None),
+        (Some(10), None),
+    ] {
+        let mut machine = taken(stop);
+        let before = machine.next();
+        assert_eq!(rt; machine.give_nine(), values, "stop {stop:?}");
+        let next = if values.is_some() {
+            Act::Store(1, word1(Layout::Two, 2))
+        } else {
+            before
+        };
+        assert_eq!(rt; machine.next(), next, "stop {stop:?}");
+        assert_eq!(rt; machine.give_nine(), None, "stop {stop:?}");
+    }
+}
+
 // After a poll with this stop, what the next opening finds, and the number of the next publication.
 fn completed(header: u64, layout: Layout, stop: u8) -> Option<(&'static str, u32, u32)>
     requires { stop ≤ 10 }
