@@ -3,11 +3,10 @@ use Rattle.std.proofs.Common.{◌≡◌, ℕ, ◌+◌, ◌-◌, ◌≤◌, ◌<�
 use Rattle.std.specs.Prelude.{◌==◌, nat_lt, slice_index, if◌then◌else◌}
 use Rattle.std.proofs.lemmas.Bool.Decides.{nat_tests}
 use Rattle.clock_gate.specs.declared.act.Act.{Act}
-use Rattle.clock_gate.specs.declared.act.Act.TheVariants.{Load, Store, End}
 use Rattle.clock_gate.specs.declared.clock_row.Reading.{Reading as ClockReading}
 use Rattle.clock_gate.specs.declared.trace.Trace.{Trace}
 use Rattle.clock_gate.specs.ClockRow.{reading_at}
-use Rattle.seqlock.specs.Tries.{SeqlockRead, started}
+use Rattle.seqlock.specs.Tries.{SeqlockRead}
 use Rattle.vmclock_page.specs.declared.page_seen.PageSeen.{PageSeen}
 use Rattle.vmclock_page.specs.Host.{Host, count_of}
 use Rattle.vmclock_page.specs.PageRead as page_read
@@ -35,7 +34,7 @@ use Rattle.step_core.specs.declared.marks.Marks.{Marks}
 use Rattle.step_core.specs.declared.marks.Place.{Place}
 use Rattle.step_core.specs.SharedWords.{value_of}
 use Rattle.step_core.specs.SharedClient as shared_client
-use Rattle.step_core.specs.SharedClient.{ClientState, noted, noted_load, trail_of, client_turned, client_stepped, client_ready, client_act}
+use Rattle.step_core.specs.SharedClient.{ClientState, noted, noted_load, trail_of, client_turned, client_stepped}
 use Rattle.step_core.specs.ShowsHost.{ShowsHost, ShowsPageRead}
 use Rattle.step_core.specs.ShowsSegment.{ShowsSegmentRead}
 use Rattle.step_core.specs.ShowsClient.{IsFirstAt, IsReadAt, IsClockedAt, ShowsStage, ShowsCall, ShowsCallOf, AreTries, ShowsClient}
@@ -73,7 +72,7 @@ few_by : (seen : ℕ) (below : Bool) → nat_lt seen 8 ≡ below → (if below t
 few_by seen true test = grind (arith, nat_tests)
 few_by seen false test = omega arith
 
-few_words : (try : Option SegmentTry) → word_loaded try < 10
+pub few_words : (try : Option SegmentTry) → word_loaded try < 10
 few_words None = omega arith
 few_words (Some try) = few_by (length try.seen) (nat_lt (length try.seen) 8) refl
 
@@ -193,7 +192,7 @@ module _ (trace : Trace) (host : HostRun) (segment : SegmentRun) (words : List �
   page_of None is has = absurd (cc has)
   page_of (Some page) is has = (page, is)
 
-  page_loads : (tries : ℕ) (reading : PageReading) (read : SeqlockRead) → is_some trace.page ≡ true → ShowsPageRead trace.page trace.host host tries reading read
+  pub page_loads : (tries : ℕ) (reading : PageReading) (read : SeqlockRead) → is_some trace.page ≡ true → ShowsPageRead trace.page trace.host host tries reading read
       → PageLoads trace.page trace.host host tries reading read words
   page_loads tries reading read has shows =
       let page = page_of trace.page refl has in
@@ -315,41 +314,3 @@ client_turn_shows trace host segment words number run client at shows =
     subst (λ (state : ClientState). ClientTurned trace host segment number (run_client.client_turn trace host segment run) (client_turned trace words (place_at segment host) state))
     (state_is trace host segment number run client shows)
     (turned_by trace host segment number words at run.left run.begun run.call client.call client.marks shows.tries shows.call)
-
--- ---- a client stores nothing
-
--- a load, or nothing
-abbrev pub IsNoStore : Act → Type 0
-IsNoStore (Load word) = Unit {0}
-IsNoStore (Store word value) = ⊥
-IsNoStore End = Unit {0}
-
-stage_loads : (trace : Trace) (host : HostRun) (segment : SegmentRun) (words : List ℕ) (at : StandsAt trace host segment words) (tries : ℕ) (run : CallStage) (machine : Stage) (marks : Marks)
-    → ShowsStage trace host segment tries run machine marks → IsNoStore (calls.act_at machine)
-stage_loads trace host segment words at tries (Reading reading) (stages.Segment read) marks shows = subst IsNoStore (sym (segment_act segment tries reading read shows.0)) tt
-stage_loads trace host segment words at tries (Clocking whole) (stages.Segment read) marks shows = absurd shows
-stage_loads trace host segment words at tries (Paging clocked reading mark_at) (stages.Segment read) marks shows = absurd shows
-stage_loads trace host segment words at tries run (stages.Clock generation rec) marks shows = tt
-stage_loads trace host segment words at tries (Reading reading) (stages.Page generation rec clock read) marks shows = absurd shows
-stage_loads trace host segment words at tries (Clocking whole) (stages.Page generation rec clock read) marks shows = absurd shows
-stage_loads trace host segment words at tries (Paging clocked reading mark_at) (stages.Page generation rec clock read) marks shows =
-    subst IsNoStore (sym (page_loads trace host segment words at tries reading read shows.1.1.1.1.0 shows.1.1.1.1.1).act) tt
-stage_loads trace host segment words at tries run (stages.Done answer) marks shows = tt
-
-begun_loads : (segment : SegmentRun) (support : Bool) (client : ClientState) (left : List ℕ) → AreTries left → client.call ≡ None → IsNoStore (client_act (shared_client.client_takes support client left))
-begun_loads segment support client [] are none = rw none tt
-begun_loads segment support client (tries ∷ left) are none =
-    subst IsNoStore (sym (segment_act segment tries (segment_reading tries) (started tries) (segment_read_new segment tries are.0))) tt
-
-call_loads : (trace : Trace) (host : HostRun) (segment : SegmentRun) (words : List ℕ) (at : StandsAt trace host segment words) (client : ClientState) (run : Option CallRun) (call : Option Call)
-    → AreTries client.left → client.call ≡ call → ShowsCallOf trace host segment run call client.marks → IsNoStore (client_act (shared_client.client_ready_by (is_some trace.page) client call))
-call_loads trace host segment words at client None None are same shows = begun_loads segment (is_some trace.page) client client.left are same
-call_loads trace host segment words at client None (Some call) are same shows = absurd shows
-call_loads trace host segment words at client (Some run) None are same shows = absurd shows
-call_loads trace host segment words at client (Some run) (Some call) are same shows =
-    subst (λ (c : Option Call). IsNoStore (shared_client.call_act c)) (sym same) (stage_loads trace host segment words at run.tries run.stage call.stage client.marks shows.stage)
-
--- a client's step is a load, or nothing: the words stay
-pub client_loads : (trace : Trace) (host : HostRun) (segment : SegmentRun) (words : List ℕ) (number : ℕ) (run : ClientRun) (client : ClientState) → StandsAt trace host segment words
-    → ShowsClient trace host segment number run client → IsNoStore (client_act (client_ready (is_some trace.page) client))
-client_loads trace host segment words number run client at shows = call_loads trace host segment words at client run.call client.call (subst AreTries (sym shows.left) shows.tries) refl shows.call

@@ -142,18 +142,23 @@ some_page (Some page) paged = (page, refl)
 
 -- ---- a load of the page
 
+-- a look at the page loads its next word
+pub looking_act : (trace : Trace) (host : HostRun) (machine : Host) (words : List ℕ) (reading : PageReading) (order : Order) (asked : Reading) (read : SeqlockRead) (stop : Option ℕ) (marks : PollMarks)
+    → AreRows trace.page (length trace.clock) trace.host → ShowsHost trace.page trace.host host machine words → is_some trace.page ≡ true → ShowsPageRead trace.page trace.host host trace.tries reading read
+    → (polling_act (in_looking order asked read stop marks).machine ≡ Load (page_word reading.try)) × PageLoads trace.page trace.host host trace.tries reading read words
+looking_act trace host machine words reading order asked read stop marks rows hosted paged reads =
+    let page = some_page trace.page paged in
+    let loads = page_load_shows trace.page page.0 (length trace.clock) trace.host host machine words trace.tries reading read page.1 rows hosted reads in
+    let open_yet : page_read.end_of read ≡ None = unended _ (page_word reading.try) loads.act in
+    (ap (λ (found : Option PageSeen). poll_progress.act_of (looking_by (page_read.act_of read) found)) open_yet ∙ loads.act, loads)
+
 pub look_turned : (trace : Trace) (host : HostRun) (machine : Host) (segment : SegmentRun) (words : List ℕ) (run : DaemonRun) (row marked_at : ℕ) (reading : PageReading) (order : Order) (daemon : DaemonState) (asked : Reading) (read : SeqlockRead) (stop : Option ℕ) (marks : PollMarks)
     → AreRows trace.page (length trace.clock) trace.host → ShowsHost trace.page trace.host host machine words → ShowsSegment segment words → slice_index words 0 ≡ MAGIC
     → IsOpenPoll trace segment run order daemon stop → asked ≡ reading_at trace.clock row → IsMarkedAt marked_at marks → is_some trace.page ≡ true → ShowsPageRead trace.page trace.host host trace.tries reading read
     → Turned trace host segment words (after_act words (polling_act (in_looking order asked read stop marks).machine)) (daemon_turn_by trace host segment run (Looking row reading marked_at))
     (polling_with daemon (polling_after trace host.done (in_looking order asked read stop marks) (value_of words (polling_act (in_looking order asked read stop marks).machine))))
 look_turned trace host machine segment words run row marked_at reading order daemon asked read stop marks rows hosted shows magic is at marked paged reads =
-    let page = some_page trace.page paged in
-    let loads : PageLoads trace.page trace.host host trace.tries reading read words =
-    page_load_shows trace.page page.0 (length trace.clock) trace.host host machine words trace.tries reading read page.1 rows hosted reads in
-    let open_yet : page_read.end_of read ≡ None = unended _ (page_word reading.try) loads.act in
-    let act_is : polling_act (in_looking order asked read stop marks).machine ≡ Load (page_word reading.try) =
-    ap (λ (found : Option PageSeen). poll_progress.act_of (looking_by (page_read.act_of read) found)) open_yet ∙ loads.act in
+    let looks = looking_act trace host machine words reading order asked read stop marks rows hosted paged reads in
     let next_segment = look_segment trace segment run row (marked_by (is_marker_next reading.try) host.done marked_at) (page_load (count_of trace.page) (page_shown trace.host host) reading) in
     subst (λ (act : Act).
     Turned trace host segment words (after_act words act) (daemon_turn_by trace host segment run (Looking row reading marked_at))
@@ -161,12 +166,12 @@ look_turned trace host machine segment words run row marked_at reading order dae
       machine = polling_given trace.clock (in_looking order asked read stop marks).machine (value_of words act);
       stop = stop;
       marks = noted_poll host.done act marks;
-    }))) (sym act_is)
+    }))) (sym looks.0)
     (record {
       leaves =
           look_leaves trace host segment run row (marked_by (is_marker_next reading.try) host.done marked_at) order daemon asked (page_read.given read (slice_index words (page_word reading.try))) stop
           (noted_poll host.done (Load (page_word reading.try)) marks) (page_load (count_of trace.page) (page_shown trace.host host) reading)
-          is at (page_marks (is_marker_next reading.try) host.done marked_at marks marked) paged loads.after;
+          is at (page_marks (is_marker_next reading.try) host.done marked_at marks marked) paged looks.1.after;
       segment_shown = subst (λ (s : SegmentRun). ShowsSegment s words) (sym next_segment) shows;
       later = subst (λ (s : SegmentRun). IsSegmentLater segment s) (sym next_segment) (later_same segment);
       rest = record { same = λ word low high. refl };

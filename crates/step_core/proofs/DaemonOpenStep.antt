@@ -12,7 +12,7 @@ use Rattle.segment_layout.specs.Image.{is_old_header}
 use Rattle.segment_run.specs.SegmentRun.{SegmentRun, opening_length, opening_effect}
 use Rattle.segment_run.specs.ShowsSegment.{ShowsSegment, IsSegmentLater}
 use Rattle.writer_reopen.specs.declared.opening.Opening.{Opening as Opened}
-use Rattle.writer_reopen.specs.Opening.{OpenerState, opening_steps, opening_act, opening_given, opening_end}
+use Rattle.writer_reopen.specs.Opening.{OpenerState, IsAdmitted, opening_steps, opening_act, opening_given, opening_end}
 use Rattle.abstract_run.specs.HostRun.{HostRun}
 use Rattle.abstract_run.specs.DaemonRun as run_daemon
 use Rattle.abstract_run.specs.DaemonRun.{Opening, DaemonRun, is_move, opening_ends, opening_step}
@@ -27,10 +27,11 @@ use Rattle.step_core.proofs.DaemonLeaves.{Leaves, Turned}
 use Rattle.step_core.proofs.DaemonOpening.{values_of, values_long, opener_at, opener_act, opener_given, opener_goes_on, opener_ends, opening_few, step_position, last_position, left_by, magic_at_end, found_fits, end_leaves}
 
 -- an opening is in hand after so many steps, on the segment that its next step meets
-pub record IsInHand (trace : Trace) (segment : SegmentRun) (run : DaemonRun) (daemon : DaemonState) (job : Job) (start : Start) (old : Bool) (steps header : ℕ) : Type 0 where
+pub record IsInHand (trace : Trace) (segment : SegmentRun) (run : DaemonRun) (daemon : DaemonState) (job : Job) (start : Start) (old : Bool) (steps first header : ℕ) : Type 0 where
   pub slow : trace.drift ≤ MOST_DRIFT
   pub layout_is : segment.layout ≡ trace.layout
   pub stands : IsInOpening segment start old steps header
+  pub admitted : IsAdmitted trace.layout (values_of first header start)
   pub job_is : IsJob trace run job
   pub same_polled : daemon.polled ≡ run.polled
   pub same_base : daemon.base ≡ run.base
@@ -39,7 +40,7 @@ pub record IsInHand (trace : Trace) (segment : SegmentRun) (run : DaemonRun) (da
 -- ---- what follows on a step
 
 goes_leaves : (trace : Trace) (host : HostRun) (segment new : SegmentRun) (words : List ℕ) (run : DaemonRun) (daemon : DaemonState) (job : Job) (start : Start) (old : Bool) (steps first header : ℕ) (act : Act)
-    → IsInHand trace segment run daemon job start old steps header → new ≡ opening_effect start steps segment → OpeningShows segment new start old steps header words act → steps + 1 < opening_length old start
+    → IsInHand trace segment run daemon job start old steps first header → new ≡ opening_effect start steps segment → OpeningShows segment new start old steps header words act → steps + 1 < opening_length old start
     → Leaves trace host (record { segment = new; daemon = record run { work = Opening start old (steps + 1) }; events = [] })
     (record { daemon = record daemon { hand = hands.Opening (record { machine = opener_at segment.layout (values_of first header start) (steps + 1); job = job }) }; told = [] })
 goes_leaves trace host segment new words run daemon job start old steps first header act is new_is step few =
@@ -60,6 +61,7 @@ goes_leaves trace host segment new words run daemon job start old steps first he
             few = few;
             is_old = subst (λ (layout : Layout). old ≡ is_old_header layout header) is.layout_is is.stands.is_old;
             tells = is.stands.tells;
+            admitted = is.admitted;
             stands = next.stands;
             unchanged = next.unchanged;
             unheaded = next.unheaded;
@@ -71,11 +73,11 @@ goes_leaves trace host segment new words run daemon job start old steps first he
       told = refl;
     }
 
-ends_leave : (trace : Trace) (host : HostRun) (segment new : SegmentRun) (words : List ℕ) (run : DaemonRun) (daemon : DaemonState) (job : Job) (machine : OpenerState) (start : Start) (old : Bool) (steps header : ℕ) (act : Act)
-    → IsInHand trace segment run daemon job start old steps header → ShowsSegment segment words → new ≡ opening_effect start steps segment → OpeningShows segment new start old steps header words act → steps + 1 ≡ opening_length old start
+ends_leave : (trace : Trace) (host : HostRun) (segment new : SegmentRun) (words : List ℕ) (run : DaemonRun) (daemon : DaemonState) (job : Job) (machine : OpenerState) (start : Start) (old : Bool) (steps first header : ℕ) (act : Act)
+    → IsInHand trace segment run daemon job start old steps first header → ShowsSegment segment words → new ≡ opening_effect start steps segment → OpeningShows segment new start old steps header words act → steps + 1 ≡ opening_length old start
     → Leaves trace host (opening_ends trace new run start (is_move old start))
     (opening_by trace daemon job machine (Some (record { start = start; moved = if is_move old start then Some (number_left old start) else None })))
-ends_leave trace host segment new words run daemon job machine start old steps header act is shows new_is step last =
+ends_leave trace host segment new words run daemon job machine start old steps first header act is shows new_is step last =
     end_leaves trace host new run daemon job machine start (is_move old start) (number_left old start)
     (record {
       slow = is.slow;
@@ -88,7 +90,7 @@ ends_leave trace host segment new words run daemon job machine start old steps h
     })
 
 by_end : (trace : Trace) (host : HostRun) (segment new : SegmentRun) (words : List ℕ) (run : DaemonRun) (daemon : DaemonState) (job : Job) (start : Start) (old : Bool) (steps first header : ℕ) (act : Act) (ended : Bool)
-    → IsInHand trace segment run daemon job start old steps header → ShowsSegment segment words → new ≡ opening_effect start steps segment → OpeningShows segment new start old steps header words act → (steps + 1 == opening_length old start) ≡ ended
+    → IsInHand trace segment run daemon job start old steps first header → ShowsSegment segment words → new ≡ opening_effect start steps segment → OpeningShows segment new start old steps header words act → (steps + 1 == opening_length old start) ≡ ended
     → Leaves trace host
     (if ended then opening_ends trace new run start (is_move old start) else record { segment = new; daemon = record run { work = Opening start old (steps + 1) }; events = [] })
     (opening_with trace daemon job (opener_at segment.layout (values_of first header start) (steps + 1)))
@@ -98,7 +100,7 @@ by_end trace host segment new words run daemon job start old steps first header 
     ap (λ (n : ℕ). opening_end (opener_at segment.layout (values_of first header start) n)) last ∙ opener_ends segment first header start old steps shows.is is.stands in
     subst (λ (found : Option Opened).
     Leaves trace host (opening_ends trace new run start (is_move old start)) (opening_by trace daemon job (opener_at segment.layout (values_of first header start) (steps + 1)) found)) (sym ends)
-    (ends_leave trace host segment new words run daemon job (opener_at segment.layout (values_of first header start) (steps + 1)) start old steps header act is shows new_is step last)
+    (ends_leave trace host segment new words run daemon job (opener_at segment.layout (values_of first header start) (steps + 1)) start old steps first header act is shows new_is step last)
 by_end trace host segment new words run daemon job start old steps first header act false is shows new_is step at_end =
     let differs : steps + 1 ≢ opening_length old start = grind (arith, nat_tests) in
     let below = is.stands.few in
@@ -121,7 +123,7 @@ follows_by trace new run start old steps after false magic at_end = record { sam
 -- ---- a step
 
 in_order_turned : (trace : Trace) (host : HostRun) (segment : SegmentRun) (words : List ℕ) (run : DaemonRun) (daemon : DaemonState) (job : Job) (start : Start) (old : Bool) (steps first header : ℕ)
-    → IsInHand trace segment run daemon job start old steps header → ShowsSegment segment words → HasMagicIn start steps words
+    → IsInHand trace segment run daemon job start old steps first header → ShowsSegment segment words → HasMagicIn start steps words
     → value_of words (slice_index_or (opening_steps segment.layout header) steps End) ≡ slice_index (values_of first header start) steps
     → Turned trace host segment words (after_act words (slice_index_or (opening_steps segment.layout header) steps End)) (opening_step trace segment run start old steps)
     (opening_with trace daemon job (opening_given (opener_at segment.layout (values_of first header start) steps) (value_of words (slice_index_or (opening_steps segment.layout header) steps End))))
@@ -154,7 +156,7 @@ opening_act_is trace segment start old steps first header same few =
 
 -- a step of an opening that was given these values
 pub opening_turned : (trace : Trace) (host : HostRun) (segment : SegmentRun) (words : List ℕ) (run : DaemonRun) (daemon : DaemonState) (job : Job) (start : Start) (old : Bool) (steps first header : ℕ)
-    → IsInHand trace segment run daemon job start old steps header → ShowsSegment segment words → HasMagicIn start steps words
+    → IsInHand trace segment run daemon job start old steps first header → ShowsSegment segment words → HasMagicIn start steps words
     → value_of words (opening_act (opener_at trace.layout (values_of first header start) steps)) ≡ slice_index (values_of first header start) steps
     → Turned trace host segment words (after_act words (opening_act (opener_at trace.layout (values_of first header start) steps))) (opening_step trace segment run start old steps)
     (opening_with trace daemon job (opening_given (opener_at trace.layout (values_of first header start) steps) (value_of words (opening_act (opener_at trace.layout (values_of first header start) steps)))))

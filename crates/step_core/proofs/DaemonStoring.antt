@@ -13,11 +13,12 @@ use Rattle.segment_layout.specs.declared.words.TheConstants.{MAGIC}
 use Rattle.segment_layout.specs.Record.{RecordFields}
 use Rattle.segment_run.specs.SegmentRun.{SegmentRun, number_at, stored_by, stored}
 use Rattle.segment_run.specs.ShowsSegment.{ShowsSegment, IsSegmentLater, KeepsRest}
+use Rattle.status_machine.specs.declared.daemon.Daemon.{Daemon}
 use Rattle.shm_writer.specs.Publisher.{stores}
 use Rattle.writer_reopen.specs.declared.order.Order.{Order}
 use Rattle.writer_reopen.specs.declared.stage.Taken.{Taken}
 use Rattle.writer_reopen.specs.PollMachine.{IsUpdate, polling_act}
-use Rattle.writer_reopen.proofs.Cut.{act_before_stop}
+use Rattle.writer_reopen.proofs.Cut.{act_before_stop, act_before_ten}
 use Rattle.abstract_run.specs.declared.event.Event.TheVariants as events
 use Rattle.abstract_run.specs.HostRun.{HostRun}
 use Rattle.abstract_run.specs.DaemonRun.{Storing, Resting, Writing, DaemonRun, poll_row, is_stop, stops, published, after_stores, store_step}
@@ -99,22 +100,39 @@ within (Some stop) made before = omega (arith, before)
 not_reached : (stop : Option ℕ) (made : ℕ) → IfSome stop (λ s. made < s) → stop ≢ Some made
 not_reached stop made before same = (let less : made < made = subst (λ (s : Option ℕ). IfSome s (λ n. made < n)) same before in absurd (omega (arith, less)))
 
--- the store that the poll wants
-storing_act : (trace : Trace) (segment : SegmentRun) (run : DaemonRun) (storing : Storing) (order : Order) (taken : Taken) (stop : Option ℕ) (marks : PollMarks) → order.layout ≡ segment.layout
-    → IsStoring trace segment run storing order taken.daemon → taken.publication ≡ storing.publication
-    → polling_act (in_stores order taken storing stop marks).machine ≡ store_at segment storing.publication order.generation storing.stores
-storing_act trace segment run storing order taken stop marks same is same_publication =
+update_is : (trace : Trace) (segment : SegmentRun) (run : DaemonRun) (storing : Storing) (order : Order) (taken : Taken) → IsStoring trace segment run storing order taken.daemon → taken.publication ≡ storing.publication
+    → IfSome order.stop (λ s. storing.stores < s)
+    → IsUpdate order taken (record { rec = storing.publication.rec; layout = order.layout; generation = order.generation; made = storing.stores })
+update_is trace segment run storing order taken is same_publication before =
     let few = is.few in
-    let before : IfSome order.stop (λ s. storing.stores < s) = subst (λ (s : Option ℕ). IfSome s (λ n. storing.stores < n)) (sym is.order_is.stop) is.until in
-    let is_update : IsUpdate order taken (record { rec = storing.publication.rec; layout = order.layout; generation = order.generation; made = storing.stores }) =
     record {
       same_record = ap (λ (p : Publication). p.rec) (sym same_publication);
       same_layout = refl;
       same_generation = refl;
       most = omega (arith, few);
       until = within order.stop storing.stores before;
-    } in
-    sym (act_before_stop order taken (record { rec = storing.publication.rec; layout = order.layout; generation = order.generation; made = storing.stores }) is_update (not_reached order.stop storing.stores before))
+    }
+
+stops_later : (trace : Trace) (segment : SegmentRun) (run : DaemonRun) (storing : Storing) (order : Order) (daemon : Daemon) → IsStoring trace segment run storing order daemon → IfSome order.stop (λ s. storing.stores < s)
+stops_later trace segment run storing order daemon is = subst (λ (s : Option ℕ). IfSome s (λ n. storing.stores < n)) (sym is.order_is.stop) is.until
+
+-- a poll in its stores wants one more
+pub storing_asks : (trace : Trace) (segment : SegmentRun) (run : DaemonRun) (storing : Storing) (order : Order) (taken : Taken) (stop : Option ℕ) (marks : PollMarks)
+    → IsStoring trace segment run storing order taken.daemon → taken.publication ≡ storing.publication → polling_act (in_stores order taken storing stop marks).machine ≢ End
+storing_asks trace segment run storing order taken stop marks is same_publication =
+    let few = is.few in
+    let before = stops_later trace segment run storing order taken.daemon is in
+    act_before_ten order taken (record { rec = storing.publication.rec; layout = order.layout; generation = order.generation; made = storing.stores }) (update_is trace segment run storing order taken is same_publication before)
+    (not_reached order.stop storing.stores before) (λ ten. absurd (omega (arith, few, ten)))
+
+-- the store that it wants
+storing_act : (trace : Trace) (segment : SegmentRun) (run : DaemonRun) (storing : Storing) (order : Order) (taken : Taken) (stop : Option ℕ) (marks : PollMarks) → order.layout ≡ segment.layout
+    → IsStoring trace segment run storing order taken.daemon → taken.publication ≡ storing.publication
+    → polling_act (in_stores order taken storing stop marks).machine ≡ store_at segment storing.publication order.generation storing.stores
+storing_act trace segment run storing order taken stop marks same is same_publication =
+    let before = stops_later trace segment run storing order taken.daemon is in
+    sym (act_before_stop order taken (record { rec = storing.publication.rec; layout = order.layout; generation = order.generation; made = storing.stores }) (update_is trace segment run storing order taken is same_publication before)
+    (not_reached order.stop storing.stores before))
     ∙ ap (λ (layout : Layout). slice_index_or (stores storing.publication.rec layout order.generation) storing.stores End) same
 
 -- a store of a poll

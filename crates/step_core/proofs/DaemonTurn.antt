@@ -1,5 +1,5 @@
 -- One turn of the daemon: what is in hand, and the words, show the run after it.
-use Rattle.std.proofs.Common.{◌≡◌, ℕ, ◌+◌, ◌-◌, Bool, false, List, [], Option, Some, None, length, refl, ap, sym, ◌∙◌, subst, arith}
+use Rattle.std.proofs.Common.{◌≡◌, ℕ, ◌+◌, ◌-◌, ◌<◌, ◌^◌, Bool, false, List, [], Option, Some, None, length, refl, ap, sym, ◌∙◌, subst, arith}
 use Rattle.std.specs.Prelude.{slice_get, slice_index, slice_index_or}
 use Rattle.std.proofs.lemmas.Option.{get_or_from_slice_get}
 use Rattle.generation_word.specs.declared.layout.Layout.{Layout}
@@ -23,7 +23,7 @@ use Rattle.writer_reopen.specs.declared.stage.Sight.{Sight}
 use Rattle.writer_reopen.specs.declared.stage.Stage.{Stage}
 use Rattle.writer_reopen.specs.declared.stage.Stage.TheVariants as stages
 use Rattle.writer_reopen.specs.declared.stage.Taken.{Taken}
-use Rattle.writer_reopen.specs.Opening.{OpenerState, opening_act}
+use Rattle.writer_reopen.specs.Opening.{OpenerState, IsAdmitted, opening_act}
 use Rattle.writer_reopen.specs.PollMachine.{polling_act}
 use Rattle.abstract_run.specs.HostRun.{HostRun}
 use Rattle.abstract_run.specs.PageReading.{PageReading}
@@ -46,6 +46,8 @@ use Rattle.step_core.proofs.DaemonStore.{in_stores}
 use Rattle.step_core.proofs.DaemonStoring.{store_turned}
 use Rattle.step_core.proofs.DaemonTaking.{in_taking, taken_turned}
 use Rattle.step_core.proofs.DaemonLooking.{in_looking, in_asking, IsOpenPoll, look_turned, ask_turned}
+use Rattle.step_core.proofs.Admits.{opening_admits}
+use Rattle.step_core.proofs.DaemonOpening.{values_of, opener_at}
 use Rattle.step_core.proofs.DaemonOpenStep.{opening_act_is, opening_turned}
 
 -- a turn comes in a lawful trace, on words that show the host and the segment
@@ -55,6 +57,7 @@ pub record IsTurnOn (trace : Trace) (host : HostRun) (machine : Host) (segment :
   pub hosted : ShowsHost trace.page trace.host host machine words
   pub shows : ShowsSegment segment words
   pub layout_is : segment.layout ≡ trace.layout
+  pub fits : slice_index segment.image 1 < 2 ^ 64
 
 -- a turn of the daemon with this in hand
 abbrev pub HandTurned : Trace → HostRun → SegmentRun → List ℕ → DaemonRun → Work → DaemonState → Hand → Type 0
@@ -147,36 +150,46 @@ writing_turned trace host machine segment words run storing order taken update d
 
 -- ---- an opening in hand
 
-machine_is : (machine : OpenerState) (layout : Layout) (values : List ℕ) → machine.layout ≡ layout → machine.values ≡ values → machine ≡ record { layout = layout; values = values }
+-- the opener that was given these values
+pub machine_is : (machine : OpenerState) (layout : Layout) (values : List ℕ) → machine.layout ≡ layout → machine.values ≡ values → machine ≡ record { layout = layout; values = values }
 machine_is machine layout values same are = rw (← same, ← are) refl
+
+-- where an opening in hand stands
+pub opens_stands : (trace : Trace) (segment : SegmentRun) (start : Start) (old : Bool) (steps : ℕ) (opener : OpenerState) → segment.layout ≡ trace.layout → (is : ShowsOpening trace segment start old steps opener) → IsInOpening segment start old steps is.header
+opens_stands trace segment start old steps opener layout_is is =
+    record {
+      stands = is.stands;
+      few = is.few;
+      is_old = subst (λ (layout : Layout). old ≡ is_old_header layout is.header) (sym layout_is) is.is_old;
+      tells = is.tells;
+      unchanged = is.unchanged;
+      unheaded = is.unheaded;
+    }
+
+-- and what its next step is given
+pub opens_value : (trace : Trace) (segment : SegmentRun) (words : List ℕ) (start : Start) (old : Bool) (steps : ℕ) (opener : OpenerState) → segment.layout ≡ trace.layout → ShowsSegment segment words → HasMagicIn start steps words
+    → (is : ShowsOpening trace segment start old steps opener) → value_of words (opening_act (opener_at trace.layout (values_of is.first is.header start) steps)) ≡ slice_index (values_of is.first is.header start) steps
+opens_value trace segment words start old steps opener layout_is shows magic is =
+    let step = opening_shows segment start old steps is.header words shows (opens_stands trace segment start old steps opener layout_is is) magic in
+    ap (value_of words) (opening_act_is trace segment start old steps is.first is.header layout_is is.few) ∙ step.value is.first is.begun
 
 opens_turned : (trace : Trace) (host : HostRun) (machine : Host) (segment : SegmentRun) (words : List ℕ) (run : DaemonRun) (start : Start) (old : Bool) (steps : ℕ) (opener : OpenerState) (job : Job) (daemon : DaemonState)
     → IsTurnOn trace host machine segment words → SameNumbers segment run daemon → HasMagicIn start steps words → ShowsOpening trace segment start old steps opener → IsJob trace run job
     → HandTurned trace host segment words run (Opening start old steps) daemon (hands.Opening (record { machine = opener; job = job }))
 opens_turned trace host machine segment words run start old steps opener job daemon on same magic is job_is =
-    let stands : IsInOpening segment start old steps is.header =
-    record {
-      stands = is.stands;
-      few = is.few;
-      is_old = subst (λ (layout : Layout). old ≡ is_old_header layout is.header) (sym on.layout_is) is.is_old;
-      tells = is.tells;
-      unchanged = is.unchanged;
-      unheaded = is.unheaded;
-    } in
-    let step = opening_shows segment start old steps is.header words on.shows stands magic in
-    let value_is = ap (value_of words) (opening_act_is trace segment start old steps is.first is.header on.layout_is is.few) ∙ step.value is.first is.begun in
     subst (λ (m : OpenerState).
     HandTurned trace host segment words run (Opening start old steps) daemon (hands.Opening (record { machine = m; job = job }))) (sym (machine_is opener trace.layout _ is.same_layout is.values))
     (opening_turned trace host segment words run (resting daemon) job start old steps is.first is.header
     (record {
       slow = on.lawful.drift;
       layout_is = on.layout_is;
-      stands = stands;
+      stands = opens_stands trace segment start old steps opener on.layout_is is;
+      admitted = is.admitted;
       job_is = job_is;
       same_polled = same.same_polled;
       same_base = same.same_base;
       same_position = same.same_position;
-    }) on.shows magic value_is)
+    }) on.shows magic (opens_value trace segment words start old steps opener on.layout_is on.shows magic is))
 
 -- ---- the first step of a poll
 
@@ -185,7 +198,11 @@ row_next trace run polled row next found =
     let place : run.polled - 1 ≡ polled = omega (arith, next) in
     ap (λ (n : ℕ). slice_index_or trace.polls n no_poll) place ∙ get_or_from_slice_get trace.polls polled row no_poll found
 
--- that of a stopped daemon is of an opening
+-- that of a stopped daemon is of an opening, which begins with the words of the segment
+pub begins_admits : (trace : Trace) (segment : SegmentRun) (words : List ℕ) → segment.layout ≡ trace.layout → slice_index segment.image 1 < 2 ^ 64 → ShowsSegment segment words → IsAdmitted trace.layout (values_of (slice_index words 0) (header_shown segment) (start_found segment))
+begins_admits trace segment words layout_is fits shows =
+    subst (λ (layout : Layout). IsAdmitted layout (values_of (slice_index words 0) (header_shown segment) (start_found segment))) layout_is (opening_admits segment words fits shows)
+
 begins_turned : (trace : Trace) (host : HostRun) (machine : Host) (segment : SegmentRun) (words : List ℕ) (run : DaemonRun) (job : Job) (daemon : DaemonState)
     → IsTurnOn trace host machine segment words → SameNumbers segment run daemon → IsJob trace run job
     → Turned trace host segment words (after_act words (hand_act (hands.Opening (record { machine = record { layout = trace.layout; values = [] }; job = job })))) (opening_step trace segment run (start_found segment) (is_old segment) 0)
@@ -196,6 +213,7 @@ begins_turned trace host machine segment words run job daemon on same job_is =
       slow = on.lawful.drift;
       layout_is = on.layout_is;
       stands = opening_begins segment on.shows.is;
+      admitted = begins_admits trace segment words on.layout_is on.fits on.shows;
       job_is = job_is;
       same_polled = same.same_polled;
       same_base = same.same_base;
@@ -309,7 +327,8 @@ rest_turned trace host machine segment words run daemon None on same at_rest hol
 rest_turned trace host machine segment words run daemon (Some row) on same at_rest holds found idle magic =
     first_turned trace host machine segment words run daemon row run.life daemon.resumed on same found refl refl idle magic
 
-poll_stop : (trace : Trace) (host : HostRun) (segment : SegmentRun) (run : DaemonRun) (work : Work) (polling : Polling) → ShowsWork trace host segment run work (hands.Polling polling) → polling.stop ≡ (poll_row trace run).stop
+-- the stop of a poll in hand, and its stage
+pub poll_stop : (trace : Trace) (host : HostRun) (segment : SegmentRun) (run : DaemonRun) (work : Work) (polling : Polling) → ShowsWork trace host segment run work (hands.Polling polling) → polling.stop ≡ (poll_row trace run).stop
 poll_stop trace host segment run Resting polling shows = shows.0
 poll_stop trace host segment run (Opening start old steps) polling shows = shows.0
 poll_stop trace host segment run Asking polling shows = shows.0
@@ -317,7 +336,7 @@ poll_stop trace host segment run (Looking row reading marked_at) polling shows =
 poll_stop trace host segment run (Taking before) polling shows = shows.0
 poll_stop trace host segment run (Writing storing) polling shows = shows.0
 
-poll_stage : (trace : Trace) (host : HostRun) (segment : SegmentRun) (run : DaemonRun) (work : Work) (polling : Polling) → ShowsWork trace host segment run work (hands.Polling polling)
+pub poll_stage : (trace : Trace) (host : HostRun) (segment : SegmentRun) (run : DaemonRun) (work : Work) (polling : Polling) → ShowsWork trace host segment run work (hands.Polling polling)
     → ShowsPoll trace host segment run work polling.machine.order polling.machine.stage polling.marks
 poll_stage trace host segment run Resting polling shows = shows.1
 poll_stage trace host segment run (Opening start old steps) polling shows = shows.1
@@ -356,12 +375,12 @@ by_hand trace host machine segment words run daemon (Writing storing) hands.Rest
 
 -- one turn of the daemon: what is in hand, the words and what is told are those of the run's turn
 pub daemon_turn_shows : (trace : Trace) (host : HostRun) (machine : Host) (segment : SegmentRun) (words : List ℕ) (run : DaemonRun) (daemon : DaemonState)
-    → IsLawfulTrace trace → AreRows trace.page (length trace.clock) trace.host → ShowsHost trace.page trace.host host machine words → ShowsSegment segment words → segment.layout ≡ trace.layout
+    → IsLawfulTrace trace → AreRows trace.page (length trace.clock) trace.host → ShowsHost trace.page trace.host host machine words → ShowsSegment segment words → segment.layout ≡ trace.layout → slice_index segment.image 1 < 2 ^ 64
     → ShowsDaemon trace host segment run daemon → HasMagicFor run words
     → Turned trace host segment words (after_act words (daemon_act (daemon_ready trace daemon))) (daemon_turn trace host segment run)
     (daemon_after trace host.done (daemon_ready trace daemon) (value_of words (daemon_act (daemon_ready trace daemon))))
-daemon_turn_shows trace host machine segment words run daemon lawful rows hosted shows layout_is is magic =
+daemon_turn_shows trace host machine segment words run daemon lawful rows hosted shows layout_is fits is magic =
     by_hand trace host machine segment words run daemon run.work daemon.hand
-    (record { lawful = lawful; rows = rows; hosted = hosted; shows = shows; layout_is = layout_is })
+    (record { lawful = lawful; rows = rows; hosted = hosted; shows = shows; layout_is = layout_is; fits = fits })
     (record { same_polled = is.same_polled; same_base = is.same_base; same_position = is.same_position })
     refl refl is.work is.idle magic

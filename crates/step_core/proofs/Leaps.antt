@@ -9,8 +9,8 @@ use Rattle.clock_gate.specs.declared.clock_row.ClockRow.{ClockRow}
 use Rattle.clock_gate.specs.declared.trace.Trace.{Trace}
 use Rattle.clock_gate.specs.declared.trace.Party.TheVariants.{Client}
 use Rattle.clock_gate.specs.Acts.{after}
-use Rattle.interval_now.specs.Call.{Call, IsCall, act_of, given, end_of, StageFailsOdd}
-use Rattle.interval_now.proofs.CallSteps.{call_nearer}
+use Rattle.interval_now.specs.Call.{Call, IsStage, act_of, given, end_of, StageFailsOdd}
+use Rattle.interval_now.proofs.CallSteps.{stage_nearer}
 use Rattle.interval_now.proofs.GivenWords.{goes_on, odd_once}
 use Rattle.abstract_run.specs.declared.event.Event.{Event}
 use Rattle.abstract_run.specs.Schedule as schedule
@@ -19,21 +19,15 @@ use Rattle.step_core.specs.declared.marks.Place.{Place}
 use Rattle.step_core.specs.SharedWords.{value_of}
 use Rattle.step_core.specs.SharedClient.{ClientState, noted, client_ready_by, client_stepped, client_after_by, client_turned, call_act, call_by, client_ended, client_has_job}
 use Rattle.step_core.specs.Shared.{Shared, shared_turn, jobs_ended, has_job, place_of, client_turn, with_client}
-use Rattle.step_core.specs.Leaps.{data_words, IsGoodLeap, GoesOn, LeapsBy, Leaps, CallLeaps, headed, WorldLeaps}
+use Rattle.step_core.specs.Leaps.{data_words, TakesWords, GoesOn, LeapsBy, Leaps, CallLeaps, headed, WorldLeaps}
 use Rattle.step_core.proofs.Idle.{client_at_place, done_at_place, set_same}
-use Rattle.step_core.specs.SharedReady.{IsReady, InHandReady, ClientReady, segment_of, owed}
-use Rattle.segment_layout.specs.Words.{IsGoodWord, AreGoodWords}
-use Rattle.shm_reader.specs.SegmentTries.{AreGoodLoads}
-use Rattle.std.proofs.lemmas.List.{get_or-take}
-use Rattle.step_core.proofs.Clients.{stage_data}
-use Rattle.step_core.proofs.Turns.{client_turn_ready, client_turn_owes, all_at}
+use Rattle.step_core.specs.Reached.{IsReached}
+use Rattle.step_core.proofs.Clients.{data_at}
+use Rattle.step_core.proofs.Reached.{reached_turn}
 use Rattle.abstract_run.specs.RunWhole.{in_hand}
 use Rattle.step_core.proofs.Schedules.{turns_less, until_less}
 
 -- ---- the call
-
-same_load : (a b : ℕ) → Load a ≡ Load b → a ≡ b
-same_load a b e = cc
 
 -- a load of a data word leaves the marks
 noted_data : (place : Place) (word : ℕ) (marks : Marks) → 2 ≤ word → word < 10 → noted place (Load word) marks ≡ marks
@@ -43,31 +37,26 @@ noted_data place word marks low high =
     let page : (word == 12) ≡ false = grind (arith, nat_tests) in
     rw (one, clock, page) refl
 
--- a call that was given a data word
-next_stands : (clock : List ClockRow) (call : Call) (word value : ℕ) → IsCall call → act_of call ≡ Load word → word < 10 → IsCall (given clock call value)
-next_stands clock call word value is act high =
-    (call_nearer clock call value is (λ ends. cc (sym act ∙ ends)) (λ late. absurd (let e = same_load word 23 (sym act ∙ late) in omega (arith, e, high)))).0
-
-went_one : (clock : List ClockRow) (words : List ℕ) (place : Place) (call : Call) (marks : Marks) (word value turns : ℕ) (later : Call) → IsCall call → act_of call ≡ Load word → 2 ≤ word → word < 10 → value ≡ slice_index words word
+went_one : (clock : List ClockRow) (words : List ℕ) (place : Place) (call : Call) (marks : Marks) (word value turns : ℕ) (later : Call) → IsStage call.stage → act_of call ≡ Load word → 2 ≤ word → word < 10 → value ≡ slice_index words word
     → GoesOn clock words place turns (given clock call value) marks later marks → GoesOn clock words place (suc turns) call marks later marks
 went_one clock words place call marks word value turns later is act low high found rest =
-    let goes = goes_on clock call.tries call.support call.stage word value is.stage act low high in
+    let goes = goes_on clock call.tries call.support call.stage word value is act low high in
     let value_is : value_of words (act_of call) ≡ value = ap (value_of words) act ∙ sym found in
     let stay : noted place (act_of call) marks ≡ marks = ap (λ (a : Act). noted place a marks) act ∙ noted_data place word marks low high in
     subst (λ (n : ℕ). (end_of (given clock call n) ≡ None) × GoesOn clock words place turns (given clock call n) (noted place (act_of call) marks) later marks) (sym value_is)
     (goes.on, subst (λ (m : Marks). GoesOn clock words place turns (given clock call value) m later marks) (sym stay) rest)
 
-went_words : (clock : List ClockRow) (words : List ℕ) (place : Place) (call : Call) (marks : Marks) (word : ℕ) (values : List ℕ) → IsCall call → act_of call ≡ Load word → 2 ≤ word → word + length values ≤ 10
+went_words : (clock : List ClockRow) (words : List ℕ) (place : Place) (call : Call) (marks : Marks) (word : ℕ) (values : List ℕ) → 0 < call.tries → IsStage call.stage → act_of call ≡ Load word → 2 ≤ word → word + length values ≤ 10
     → ((k : ℕ) → k < length values → slice_index values k ≡ slice_index words (word + k)) → GoesOn clock words place (length values) call marks (after act_of (given clock) call values) marks
-went_words clock words place call marks word [] is act low few are = (refl, refl)
-went_words clock words place call marks word (value ∷ []) is act low few are =
+went_words clock words place call marks word [] some is act low few are = (refl, refl)
+went_words clock words place call marks word (value ∷ []) some is act low few are =
     let here : word + 0 ≡ word = omega arith in
     went_one clock words place call marks word value 0 (given clock call value) is act low (omega arith) (are 0 (omega arith) ∙ ap (slice_index words) here) (refl, refl)
-went_words clock words place call marks word (value ∷ next ∷ values) is act low few are =
+went_words clock words place call marks word (value ∷ next ∷ values) some is act low few are =
     let here : word + 0 ≡ word = omega arith in
-    let goes = goes_on clock call.tries call.support call.stage word value is.stage act low (omega arith) in
+    let goes = goes_on clock call.tries call.support call.stage word value is act low (omega arith) in
     went_one clock words place call marks word value (length (next ∷ values)) (after act_of (given clock) (given clock call value) (next ∷ values)) is act low (omega arith) (are 0 (omega arith) ∙ ap (slice_index words) here)
-    (went_words clock words place (given clock call value) marks (word + 1) (next ∷ values) (next_stands clock call word value is act (omega arith)) (goes.next (omega arith)) (omega arith) (omega arith)
+    (went_words clock words place (given clock call value) marks (word + 1) (next ∷ values) some (stage_nearer clock call.tries call.support call.stage value some is (λ ends. absurd (cc (sym act ∙ ends)))).0 (goes.next (omega arith)) (omega arith) (omega arith)
     (λ k less. let there : word + suc k ≡ word + 1 + k = omega arith in are (suc k) (omega arith) ∙ ap (slice_index words) there))
 
 headed_more : (place : Place) (count : ℕ) (marks : Marks) → headed place count (record marks { from = marks.to; to = place.position }) ≡ headed place (suc count) marks
@@ -94,22 +83,12 @@ went_odd clock words place (suc count) call marks fails =
 
 -- ---- the client
 
-data_at : (words : List ℕ) (k : ℕ) → k < 8 → slice_index (data_words words) k ≡ slice_index words (2 + k)
-data_at words zero less = refl
-data_at words (suc zero) less = refl
-data_at words (suc (suc zero)) less = refl
-data_at words (suc (suc (suc zero))) less = refl
-data_at words (suc (suc (suc (suc zero)))) less = refl
-data_at words (suc (suc (suc (suc (suc zero))))) less = refl
-data_at words (suc (suc (suc (suc (suc (suc zero)))))) less = refl
-data_at words (suc (suc (suc (suc (suc (suc (suc zero))))))) less = refl
-data_at words (suc (suc (suc (suc (suc (suc (suc (suc k)))))))) less = absurd (omega arith)
-
-pub call_leaps : (clock : List ClockRow) (words : List ℕ) (place : Place) (call : Call) (marks : Marks) (turns heads : ℕ) (later : Call) → IsCall call → CallLeaps clock words call turns heads later
+pub call_leaps : (clock : List ClockRow) (words : List ℕ) (place : Place) (call : Call) (marks : Marks) (turns heads : ℕ) (later : Call) → (act_of call ≡ Load 2 → TakesWords words call) → CallLeaps clock words call turns heads later
     → GoesOn clock words place turns call marks later (headed place heads marks)
-call_leaps clock words place call marks turns heads later is (inl taken) =
-    rw (taken.0, taken.1, taken.3) (went_words clock words place call marks 2 (data_words words) is taken.2 (omega arith) (omega arith) (λ k less. data_at words k less))
-call_leaps clock words place call marks turns heads later is (inr failed) =
+call_leaps clock words place call marks turns heads later takes (inl taken) =
+    let is = takes taken.2 in
+    rw (taken.0, taken.1, taken.3) (went_words clock words place call marks 2 (data_words words) is.some is.stage taken.2 (omega arith) (omega arith) (λ k less. data_at words k less))
+call_leaps clock words place call marks turns heads later takes (inr failed) =
     rw (← failed.0, failed.2) (went_odd clock words place turns call marks failed.1)
 
 -- ---- the run
@@ -141,16 +120,15 @@ job_hand client call same = rw same refl
 
 pub record Lept (place turns : ℕ) (w new : Shared) : Type 0 where
   pub leaps : WorldLeaps place turns w new
-  pub ready : IsReady w → IsReady new
-  pub owes : IsReady w → owed new ≤ owed w
+  pub reached : IsReached w → IsReached new
 
 lept_none : (place : ℕ) (w : Shared) → Lept place 0 w w
-lept_none place w = record { leaps = record { clients = refl; turned = λ more. let same : 0 + more ≡ more = omega arith in ap (λ (n : ℕ). schedule.turns_of shared_turn jobs_ended has_job n (Client (place + 1)) w) same; done = λ jobs. refl; until = λ more jobs goes. let same : 0 + more ≡ more = omega arith in ap (λ (n : ℕ). schedule.until_done shared_turn jobs_ended has_job n (Client (place + 1)) jobs w) same }; ready = λ r. r; owes = λ r. omega arith }
+lept_none place w = record { leaps = record { clients = refl; turned = λ more. let same : 0 + more ≡ more = omega arith in ap (λ (n : ℕ). schedule.turns_of shared_turn jobs_ended has_job n (Client (place + 1)) w) same; done = λ jobs. refl; until = λ more jobs goes. let same : 0 + more ≡ more = omega arith in ap (λ (n : ℕ). schedule.until_done shared_turn jobs_ended has_job n (Client (place + 1)) jobs w) same }; reached = λ r. r }
 
 lept_one : (place turns : ℕ) (w next new : Shared) → shared_turn w (Client (place + 1)) ≡ next → length next.clients ≡ length w.clients
     → ((jobs : ℕ) → schedule.is_done shared_turn jobs_ended has_job (Client (place + 1)) jobs next ≡ schedule.is_done shared_turn jobs_ended has_job (Client (place + 1)) jobs w)
-    → (IsReady w → IsReady next) → (IsReady w → owed next ≤ owed w) → Lept place turns next new → Lept place (suc turns) w new
-lept_one place turns w next new turn long done ready owes rest =
+    → Lept place turns next new → Lept place (suc turns) w new
+lept_one place turns w next new turn long done rest =
     record {
       leaps = record {
         clients = rest.leaps.clients ∙ long;
@@ -168,8 +146,7 @@ lept_one place turns w next new turn long done ready owes rest =
             ∙ ap (schedule.until_done shared_turn jobs_ended has_job (turns + more) (Client (place + 1)) jobs) turn
             ∙ rest.leaps.until more jobs (done jobs ∙ goes);
       };
-      ready = λ r. rest.ready (ready r);
-      owes = λ r. let first = owes r in let later = rest.owes (ready r) in omega (arith, first, later);
+      reached = λ r. rest.reached (subst IsReached turn (reached_turn w (Client (place + 1)) r));
     }
 
 pub leap_turns : (turns : ℕ) (w : Shared) (place : ℕ) (client : ClientState) (call later : Call) (marks : Marks) → place < length w.clients → slice_get w.clients place ≡ Some client → client.call ≡ Some call
@@ -193,8 +170,6 @@ leap_turns (suc turns) w place client call later marks within at same went =
     (λ jobs. done_at_place (record w { clients = slice_set w.clients place next }) place jobs next at_next
     ∙ (ap (λ (n : ℕ). nat_le jobs n || not true) (ended_hand next next_call refl ∙ sym (ended_hand client call same))
     ∙ (ap (λ (b : Bool). nat_le jobs (client_ended client) || not b) (sym (job_hand client call same)) ∙ sym (done_at_place w place jobs client at))))
-    (λ r. subst IsReady told (client_turn_ready w place client r at))
-    (λ r. let few = client_turn_owes w place client r at in subst (λ (s : Shared). owed s ≤ owed w) told (omega (arith, few)))
     (subst (λ (clients : List ClientState). Lept place turns (record w { clients = slice_set w.clients place next }) (record w { clients = clients }))
     (set_twice w.clients place next (record client { call = Some later; marks = marks })) rest)
 
@@ -214,20 +189,8 @@ leapt turns w place client new within at leaps = by_call client.call refl leaps
 pub leaps_none : (clock : List ClockRow) (words : List ℕ) (place : Place) (client : ClientState) → client.call ≡ None → Leaps clock words place 0 client client
 leaps_none clock words place client same = subst (LeapsBy clock words place 0 client client) (sym same) (refl, refl)
 
-pub leaps_some : (clock : List ClockRow) (words : List ℕ) (place : Place) (client : ClientState) (call later : Call) (turns heads : ℕ) → client.call ≡ Some call → IsCall call → CallLeaps clock words call turns heads later
+pub leaps_some : (clock : List ClockRow) (words : List ℕ) (place : Place) (client : ClientState) (call later : Call) (turns heads : ℕ) → client.call ≡ Some call → (act_of call ≡ Load 2 → TakesWords words call) → CallLeaps clock words call turns heads later
     → Leaps clock words place turns client (record client { call = Some later; marks = headed place heads client.marks })
-leaps_some clock words place client call later turns heads same is leap =
+leaps_some clock words place client call later turns heads same takes leap =
     subst (LeapsBy clock words place turns client (record client { call = Some later; marks = headed place heads client.marks })) (sym same)
-    (later, headed place heads client.marks, refl, call_leaps clock words place call client.marks turns heads later is leap)
-
-good_data : (words : List ℕ) → AreGoodWords (segment_of words) → AreGoodLoads (data_words words)
-good_data words good k less =
-    let here = good (2 + k) (omega arith) (omega arith) in
-    subst (λ (n : ℕ). IsGoodWord (2 + k) n) (get_or-take 10 words (2 + k) 0 (omega arith) ∙ sym (data_at words k less)) here
-
-good_call : (words : List ℕ) (call : Option Call) → InHandReady (segment_of words) call → IsGoodLeap words call
-good_call words None ready = tt
-good_call words (Some call) ready = (ready.stands, λ act. good_data words (stage_data (segment_of words) call.stage 2 ready.stands.stage ready.stage act (omega arith) (omega arith)))
-
-pub good_leap : (w : Shared) (place : ℕ) (client : ClientState) → IsReady w → slice_get w.clients place ≡ Some client → IsGoodLeap w.words client.call
-good_leap w place client ready at = good_call w.words client.call (all_at (ClientReady (segment_of w.words)) w.clients place client ready.clients at).call
+    (later, headed place heads client.marks, refl, call_leaps clock words place call client.marks turns heads later takes leap)

@@ -65,7 +65,7 @@ old_three : (layout : Layout) (header : ℕ) → is_old_header layout header ≡
 old_three Two header is = absurd (cc is)
 old_three Three header is = refl
 
-found_by_header : (segment : SegmentRun) (start : Start) (old : Bool) (steps header : ℕ) → IsInOpening segment start old steps header → IsFoundBy (generation_in header) start
+pub found_by_header : (segment : SegmentRun) (start : Start) (old : Bool) (steps header : ℕ) → IsInOpening segment start old steps header → IsFoundBy (generation_in header) start
 found_by_header segment Fresh old steps header is = is.tells
 found_by_header segment (Torn generation) old steps header is =
     let number = number_in_update segment is.stands.0 in

@@ -1,6 +1,6 @@
 -- One turn of a party, and the start: the run over words shows the abstract run.
-use Rattle.std.proofs.Common.{◌≡◌, ℕ, zero, suc, ◌+◌, ◌-◌, ◌<◌, List, [], ◌∷◌, ◌++◌, length, Option, Some, None, Result, Ok, Err, refl, ap, sym, ◌∙◌, subst, arith}
-use Rattle.std.specs.Prelude.{slice_get, IsOk}
+use Rattle.std.proofs.Common.{◌≡◌, ℕ, zero, suc, ◌+◌, ◌-◌, ◌^◌, ◌<◌, List, [], ◌∷◌, ◌++◌, length, Option, Some, None, Result, Ok, Err, refl, ap, sym, ◌∙◌, subst, arith}
+use Rattle.std.specs.Prelude.{slice_get, slice_index, IsOk}
 use Rattle.std.proofs.lemmas.List.{get_or_append_left}
 use Rattle.generation_word.specs.declared.layout.Layout.{Layout}
 use Rattle.clock_gate.specs.declared.trace.Party.{Party}
@@ -70,6 +70,7 @@ host_turns_by trace run w shows turned =
       same_host = turned.same_done;
       segment = segment_keeps run.segment w.words (after_act w.words (host_act (host_ready trace.host w.host))) shows.segment turned.keeps turned.same_length;
       same_layout = shows.same_layout;
+      fits = shows.fits;
       daemon = daemon_later trace run.host (host_turn trace.host run.host) run.segment run.daemon w.daemon turned.later shows.daemon;
       magic = magic_kept run.daemon w.words (after_act w.words (host_act (host_ready trace.host w.host))) turned.keeps shows.magic;
       clients = clients_later trace run.host (host_turn trace.host run.host) run.segment run.segment turned.later (later_same run.segment) shows.segment.is 1 run.clients w.clients shows.clients;
@@ -92,6 +93,7 @@ daemon_turns_by trace run w ready next turned shows is =
       same_host = shows.same_host;
       segment = is.segment_shown;
       same_layout = is.later.layout ∙ shows.same_layout;
+      fits = subst (λ (image : List ℕ). slice_index image 1 < 2 ^ 64) (sym is.later.image) shows.fits;
       daemon = is.leaves.shows;
       magic = is.magic;
       clients = clients_later trace run.host run.host run.segment next.segment (same_host trace run.host) is.later shows.segment.is 1 run.clients w.clients shows.clients;
@@ -103,7 +105,7 @@ daemon_turns trace lawful run w shows =
     subst (λ (given : Trace). Shows trace (turn trace run Daemon) (shareds.with_daemon w (daemon_ready given w.daemon) (daemon_turned given w.host.done w.words (daemon_ready given w.daemon)))) (sym shows.same_trace)
     (subst (λ (done : ℕ). Shows trace (turn trace run Daemon) (shareds.with_daemon w (daemon_ready trace w.daemon) (daemon_turned trace done w.words (daemon_ready trace w.daemon)))) (sym shows.same_host)
     (daemon_turns_by trace run w (daemon_ready trace w.daemon) (daemon_turn trace run.host run.segment run.daemon) (daemon_turned trace run.host.done w.words (daemon_ready trace w.daemon)) shows
-    (daemon_turn_shows trace run.host w.host.machine run.segment w.words run.daemon w.daemon lawful shows.rows shows.host shows.segment shows.same_layout shows.daemon shows.magic)))
+    (daemon_turn_shows trace run.host w.host.machine run.segment w.words run.daemon w.daemon lawful shows.rows shows.host shows.segment shows.same_layout shows.fits shows.daemon shows.magic)))
 
 client_turns_by : (trace : Trace) (run : Run) (w : Shared) (number : ℕ) (next : run_client.ClientTurn) (turned : shared_client.ClientTurn) → 0 < number → Shows trace run w
     → ClientTurned trace run.host run.segment number next turned → Shows trace (runs.with_client run number next) (shareds.with_client w (number - 1) turned)
@@ -117,6 +119,7 @@ client_turns_by trace run w number next turned some shows is =
       same_host = shows.same_host;
       segment = shows.segment;
       same_layout = shows.same_layout;
+      fits = shows.fits;
       daemon = shows.daemon;
       magic = shows.magic;
       clients = clients_set trace run.host run.segment 1 run.clients w.clients (number - 1) next.client turned.client shows.clients
@@ -173,6 +176,11 @@ layout_by layout image sequence Fresh = refl
 layout_by layout image sequence (Torn generation) = refl
 layout_by layout image sequence (Kept generation rec) = refl
 
+image_by : (layout : Layout) (image : List ℕ) (sequence : ℕ) (begins : Start) → (segment_by layout image sequence begins).image ≡ image
+image_by layout image sequence Fresh = refl
+image_by layout image sequence (Torn generation) = refl
+image_by layout image sequence (Kept generation rec) = refl
+
 -- at the start
 pub start_shows : (trace : Trace) → IsGiven trace → Shows trace (start trace) (shared_start trace)
 start_shows trace given =
@@ -188,6 +196,7 @@ start_shows trace given =
       segment = segment_start_shows trace.layout trace.image (words_start trace) (count_of trace.page) found.0 given.ten given.fits found.1 host.wide
           (λ word low. get_or_append_left trace.image (page_part trace.page ++ 1 ∷ []) 0 word (let ten = given.ten in omega (arith, ten, low)));
       same_layout = layout_by trace.layout trace.image (count_of trace.page) (start_of trace.image);
+      fits = subst (λ (image : List ℕ). slice_index image 1 < 2 ^ 64) (sym (image_by trace.layout trace.image (count_of trace.page) (start_of trace.image))) given.fits;
       daemon = daemon_start_shows trace host_start found.0 given.fits found.1;
       magic = magic_at_start (words_start trace);
       clients = clients_start trace host_start (segment_start trace.layout trace.image (count_of trace.page)) trace.calls given.can.lawful.calls 1 trace.clients;

@@ -4,7 +4,7 @@ use Rattle.clock_gate.specs.declared.act.Act.TheVariants.{Load}
 use Rattle.clock_gate.specs.declared.clock_row.ClockRow.{ClockRow}
 use Rattle.clock_gate.specs.Acts.{after}
 use Rattle.shm_reader.specs.SegmentTries.{AreGoodLoads}
-use Rattle.interval_now.specs.Call.{Call, IsCall, act_of, given, end_of, StageFailsOdd}
+use Rattle.interval_now.specs.Call.{Call, IsStage, act_of, given, end_of, StageFailsOdd}
 use Rattle.step_core.specs.declared.marks.Marks.{Marks}
 use Rattle.step_core.specs.declared.marks.Place.{Place}
 use Rattle.step_core.specs.SharedWords.{value_of}
@@ -45,10 +45,16 @@ CallLeaps clock words call turns heads later =
     ((turns ≡ 8) × (heads ≡ 0) × (act_of call ≡ Load 2) × (later ≡ after act_of (given clock) call (data_words words)))
     ⊎ ((turns ≡ heads) × (0 < turns → StageFailsOdd call.stage (slice_index words 1) turns) × (later ≡ after act_of (given clock) call (replicate turns (slice_index words 1))))
 
--- the data words are good ones where a call in hand wants them
+-- a call can take these words
+pub record TakesWords (words : List ℕ) (call : Call) : Type 0 where
+  pub some : 0 < call.tries
+  pub stage : IsStage call.stage
+  pub good : AreGoodLoads (data_words words)
+
+-- where a call in hand wants the data words it can take them
 abbrev pub IsGoodLeap : List ℕ → Option Call → Type 0
 IsGoodLeap words None = Unit {0}
-IsGoodLeap words (Some call) = IsCall call × (act_of call ≡ Load 2 → AreGoodLoads (data_words words))
+IsGoodLeap words (Some call) = act_of call ≡ Load 2 → TakesWords words call
 
 -- so many turns of the client at a place, made at once: those that follow go on from there, and its jobs are as far as before
 pub record WorldLeaps (place turns : ℕ) (w new : Shared) : Type 0 where

@@ -11,6 +11,7 @@ pub mod ShowsSegment
 pub mod ShowsClient
 pub mod ShowsDaemon
 pub mod Shows
-pub mod SharedReady
 pub mod Leaps
+pub mod DaemonLeaps
 pub mod WordsShow
+pub mod Reached

@@ -1,5 +1,5 @@
 -- What the run over 24 words shows of the abstract run: the words, each machine in hand, and the events.
-use Rattle.std.specs.Prelude.{◌≡◌, length}
+use Rattle.std.specs.Prelude.{◌≡◌, ◌<◌, ◌^◌, length, slice_index}
 use Rattle.clock_gate.specs.declared.trace.Trace.{Trace}
 use Rattle.clock_gate.specs.Trace.{IsLawfulTrace}
 use Rattle.segment_run.specs.ShowsSegment.{ShowsSegment}
@@ -18,6 +18,7 @@ pub record Shows (trace : Trace) (run : Run) (w : Shared) : Type 0 where
   pub same_host : w.host.done ≡ run.host.done
   pub segment : ShowsSegment run.segment w.words
   pub same_layout : run.segment.layout ≡ trace.layout
+  pub fits : slice_index run.segment.image 1 < 2 ^ 64
   pub daemon : ShowsDaemon trace run.host run.segment run.daemon w.daemon
   pub magic : HasMagicFor run.daemon w.words
   pub clients : ShowsClients trace run.host run.segment 1 run.clients w.clients

@@ -20,7 +20,7 @@ use Rattle.segment_run.specs.ShowsSegment.{HoldsWords}
 use Rattle.writer_reopen.specs.declared.order.Order.{Order}
 use Rattle.writer_reopen.specs.declared.stage.Stage.{Stage}
 use Rattle.writer_reopen.specs.declared.stage.Stage.TheVariants as stages
-use Rattle.writer_reopen.specs.Opening.{OpenerState}
+use Rattle.writer_reopen.specs.Opening.{OpenerState, IsAdmitted}
 use Rattle.writer_reopen.specs.Poll.{marker_seen, sequence_seen}
 use Rattle.writer_reopen.specs.PollMachine.{DaemonFits}
 use Rattle.abstract_run.specs.HostRun.{HostRun}
@@ -76,7 +76,7 @@ abbrev pub HasMagicIn : Start → (steps : ℕ) → List ℕ → Type 0
 HasMagicIn Fresh steps words = 2 < steps → slice_index words 0 ≡ MAGIC
 HasMagicIn start steps words = slice_index words 0 ≡ MAGIC
 
--- an opening that loaded this header
+-- an opening that loaded this header; what it loads begins an image that is admitted
 pub record ShowsOpening (trace : Trace) (segment : SegmentRun) (start : Start) (old : Bool) (steps : ℕ) (opener : OpenerState) : Type 0 where
   pub first : ℕ
   pub header : ℕ
@@ -86,6 +86,7 @@ pub record ShowsOpening (trace : Trace) (segment : SegmentRun) (start : Start) (
   pub few : steps < opening_length old start
   pub is_old : old ≡ is_old_header trace.layout header
   pub tells : generation_in header ≡ generation_of_start start
+  pub admitted : IsAdmitted trace.layout (first ∷ header ∷ given_after start)
   pub stands : StandsIn segment start old steps
   -- word 1 is stored by the last step, and in a move by the last two
   pub unchanged : steps < 11 → header_shown segment ≡ header
