@@ -3,5 +3,7 @@ pub mod CallFollows
 pub mod CallRun
 pub mod CallSteps
 pub mod Intervals
+pub mod PageTry
 pub mod Statuses
+pub mod FirstTry
 pub mod GivenWords

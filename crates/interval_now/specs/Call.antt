@@ -1,6 +1,6 @@
 -- A client call, step by step: the tries to read the segment, the clock, where there is a page the tries to read it, and
 -- then the interval. This project's own.
-use Rattle.std.specs.Prelude.{◌≡◌, ◌≢◌, ℕ, ◌+◌, ◌*◌, ◌<◌, ◌≤◌, Bool, if◌then◌else◌, List, Option, Some, None, IfSome, Result, Ok, Err, length}
+use Rattle.std.specs.Prelude.{◌≡◌, ◌≢◌, ℕ, ◌+◌, ◌*◌, ◌<◌, ◌≤◌, Bool, true, if◌then◌else◌, List, Option, Some, None, IfSome, Result, Ok, Err, length}
 use Rattle.clock_gate.specs.declared.act.Act.{Act}
 use Rattle.clock_gate.specs.declared.act.Act.TheVariants.{Load, End}
 use Rattle.clock_gate.specs.declared.clock_row.ClockRow.{ClockRow}
@@ -33,6 +33,10 @@ pub record Call : Type 0 where
 
 abbrev pub started_call : ℕ → Bool → Call
 started_call tries support = record { tries = tries; support = support; stage = Segment (started tries) }
+
+-- a call that has read this record and this reading, where the first try of the page was given these values
+abbrev pub paged : ℕ → ℕ → RecordFields → Reading → List ℕ → Call
+paged tries generation rec reading values = record { tries = tries; support = true; stage = Page generation rec reading (record (started tries) { values = values }) }
 
 -- the answer to an interval, or to a reading that lies before the record
 abbrev pub timed : ℕ → ℕ → ℕ → Result Interval Causality → Answer

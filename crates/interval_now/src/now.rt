@@ -1,5 +1,5 @@
 //! A client call, as a step machine.
-ghost use Rattle.std.specs.Prelude.{◌≡◌, ◌≢◌, ◌≤◌, ◌<◌, ◌+◌, ◌*◌, ℕ, List, length, replicate, IfOk, IfSome, IsNone, IsTrue, IsFalse, Some, None, ◌↔◌};
+ghost use Rattle.std.specs.Prelude.{◌≡◌, ◌≢◌, [], ◌≤◌, ◌<◌, ◌+◌, ◌*◌, ℕ, List, length, replicate, IfOk, IfSome, IsNone, IsTrue, IsFalse, Some, None, ◌↔◌};
 ghost use Rattle.clock_gate.specs.declared.limits.TheConstants.{LAST_MOMENT, MOST_TRIES, MOST_HOST_ROWS};
 ghost use Rattle.clock_gate.specs.Acts.{IsLoadWithin, after};
 ghost use Rattle.clock_gate.specs.ClockRow.{IsClock};
@@ -9,7 +9,7 @@ ghost use Rattle.shm_reader.specs.SegmentTries.{IsGoodLoad, AreGoodLoads};
 ghost use Rattle.shm_reader.specs.SegmentTries as segment;
 ghost use Rattle.vmclock_page.specs.PageRead as page;
 ghost use Rattle.interval_now.specs.Interval.{KeepsEnds};
-ghost use Rattle.interval_now.specs.Call.{started_call, timed, answer_of, act_of, act_at, end_of, given, after_segment, after_clock, after_page, stage_given, tried, words_given, followed, steps_at, steps_left, IsStage, IsEarly, IsRowNumber, IsRowAt, TriesOn, HasEnded, StageFailsOdd, AnswerKeepsEnds, StageKeepsEnds};
+ghost use Rattle.interval_now.specs.Call.{started_call, paged, timed, answer_of, act_of, act_at, end_of, given, after_segment, after_clock, after_page, stage_given, tried, words_given, followed, steps_at, steps_left, IsStage, IsEarly, IsRowNumber, IsRowAt, TriesOn, HasEnded, StageFailsOdd, AnswerKeepsEnds, StageKeepsEnds};
 
 use crate::answers::{Answer, Causality, Interval, Timed};
 use crate::rule::interval;
@@ -61,8 +61,9 @@ fn timed(generation: u32, row: u32, sequence: u32, found: Result<Interval, Causa
     }
 }
 
-// The answer by a record, a reading, and what the page told, where there is one.
-fn answer_of(
+/// The answer by the record read under this generation, a reading of the clock, and the page's marker and sequence count, where there is
+/// one; without a page the count is 0.
+pub fn answer_of(
     generation: u32,
     rec: &Record,
     reading: Reading,
@@ -296,6 +297,27 @@ impl NowMachine {
             tries,
             support,
             stage: Stage::Segment(SegmentReader::new(tries)),
+        }
+    }
+
+    /// A call with a page that has read this record and this reading of the clock.
+    pub fn at_page(tries: u16, generation: u32, rec: &Record, reading: Reading) -> NowMachine
+        requires some { 1 ≤ tries }
+        requires most { tries ≤ MOST_TRIES }
+        requires mono { reading.mono ≤ LAST_MOMENT }
+        requires real { reading.real ≤ LAST_MOMENT }
+        ensures { result ≡ paged tries generation rec.now reading [] }
+    {
+        let reader = PageReader::new(tries);
+        NowMachine {
+            tries,
+            support: true,
+            stage: Stage::Page {
+                generation,
+                rec: *rec,
+                reading,
+                reader,
+            },
         }
     }
 

@@ -2,7 +2,7 @@
 ghost use Rattle.std.specs.Prelude.{◌≡◌, false, is_some};
 
 use crate::words::{clock, seated};
-use interval_now::Answer;
+use interval_now::{Answer, Timed};
 use segment_rule::{ClientSeat, DaemonSeat, HostTable};
 use status_machine::{Daemon, hear};
 use std::alloc::Global;
@@ -21,27 +21,39 @@ const REPLY: [u8; 104] = [
     0, 0, 0, 0, 0, 0, 0, 0, 0, 0, 0, 0xec, 0x80, 0, 0, 0xea, 0x80, 0, 0, 0, 0, 0, 0,
 ];
 
-/// So many calls: how many answered a time, and how many nanoseconds they took, 0 without a clock.
+/// So many calls: how many answered a time, a sum of all that these told, so that each is made whole, and how many nanoseconds they
+/// took, 0 without a clock.
 #[derive(Clone, Copy, Debug, PartialEq, Eq)]
 pub struct Made {
     pub times: u32,
+    pub sum: u64,
     pub nanos: u128,
 }
 
-// Makes so many calls: how many answered a time.
-fn called(client: &mut ClientSeat, table: &HostTable, count: u32) -> u32
+// The fields of an answer in one number.
+fn summed(timed: &Timed) -> u64 {
+    let read = u64::from(timed.generation) ^ u64::from(timed.row) ^ u64::from(timed.sequence);
+    let earliest = u64::try_from(timed.interval.earliest).unwrap_or(0);
+    let latest = u64::try_from(timed.interval.latest).unwrap_or(0);
+    read ^ earliest ^ latest ^ (timed.interval.status.code() as u64)
+}
+
+// Makes so many calls: how many answered a time, and the sum of these.
+fn called(client: &mut ClientSeat, table: &HostTable, count: u32) -> (u32, u64)
     requires table { client.old.table ≡ table.now.id }
     requires rows { client.old.view.setup.rows ≡ 2 }
     requires hand { client.old.in_hand ≡ false }
 {
     let clock = clock();
     let mut times: u32 = 0;
+    let mut sum: u64 = 0;
     'calling: for _ in 0..count {
-        if let Answer::Time(_) = client.now(table, &clock, TRIES) {
+        if let Answer::Time(timed) = client.now(table, &clock, TRIES) {
             times = times.saturating_add(1);
+            sum = sum.rotate_left(1) ^ summed(&timed);
         }
     }
-    times
+    (times, sum)
 }
 
 fn measured<R: Clock>(rt: &R, mut client: ClientSeat, table: &HostTable, count: u32) -> Made
@@ -50,7 +62,7 @@ fn measured<R: Clock>(rt: &R, mut client: ClientSeat, table: &HostTable, count: 
     requires hand { client.in_hand ≡ false }
 {
     let begun = Instant::now(rt);
-    let times = called(&mut client, table, count);
+    let (times, sum) = called(&mut client, table, count);
     let nanos = match begun {
         Ok(begun) => match begun.elapsed(rt) {
             Ok(spent) => spent.as_nanos(),
@@ -58,7 +70,7 @@ fn measured<R: Clock>(rt: &R, mut client: ClientSeat, table: &HostTable, count: 
         },
         Err(_) => 0,
     };
-    Made { times, nanos }
+    Made { times, sum, nanos }
 }
 
 // Opens, and publishes so often: how often it did.

@@ -2,7 +2,8 @@
 //!
 //! With no word it makes a thousand, as the gate runs it. With `alone` or `page` it makes twenty million on words that nobody writes,
 //! without a page or with one; with `beside` two million while a daemon publishes in another thread, with `beside-page` the same with a
-//! page. It prints how many of them answered a time, and with a word also the nanoseconds that one call took.
+//! page. It prints how many of them answered a time, and with a word also the nanoseconds that one call took and a
+//! sum of the answers, without which the compiler would leave out what nobody looks at.
 #![tactic(auto)]
 
 mod calls;
@@ -27,7 +28,11 @@ fn shown(rt: &impl Print, made: Option<Made>, count: u32) -> io::Result<()> {
         None => rt.println("out of memory"),
         Some(made) => {
             let nanos = made.nanos / u128::from(count.max(1));
-            rt.println(format_args!("{} of {count} answered, {nanos} ns a call", made.times))
+            let sum = made.sum;
+            rt.println(format_args!(
+                "{} of {count} answered, {nanos} ns a call, sum {sum}",
+                made.times
+            ))
         }
     }
 }

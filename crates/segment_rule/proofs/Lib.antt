@@ -1,6 +1,7 @@
 pub mod Allowed
 pub mod Stepping
 pub mod LoadedWords
+pub mod WholeCall
 pub mod Opening
 pub mod PageSeen
 pub mod Stores

@@ -15,7 +15,7 @@ use Rattle.segment_views.specs.declared.setup.Setup.{Setup}
 use Rattle.segment_views.specs.Views.{SeatView}
 use Rattle.segment_views.proofs.Lists.{begins_length}
 use Rattle.segment_rule.specs.Ruled.{TellsLoad, TellsLoads}
-use Rattle.segment_rule.specs.Calls.{Going}
+use Rattle.segment_rule.specs.Calls.{Going, Stays}
 use Rattle.segment_rule.proofs.Stepping.{loads_told, data_told, going_more}
 
 -- one load more
@@ -36,18 +36,21 @@ told_next word count values v u w found few eight before told =
     (told_more word (take count values) v u w found before (subst (λ (n : ℕ). TellsLoad false (word + n) u found found w) (sym made) told))
 
 -- what stays the same
-pub record Stays (v w : SeatView) : Type 0 where
-  pub seated : w.seated ≡ v.seated
-  pub setup : w.setup ≡ v.setup
-  pub calls : w.calls ≡ v.calls
-  pub before : w.before ≡ v.before
-
 pub stays : (word : ℕ) (values : List ℕ) (v w : SeatView) → TellsLoads word values v w → Stays v w
 stays word [] v w same = subst (λ (x : SeatView). Stays v x) same (record { seated = refl; setup = refl; calls = refl; before = refl })
 stays word (value ∷ values) v w told =
     let l = loads_told false word value v told.0 told.1 in
     let rest = stays (word + 1) values told.0 w told.2 in
     record { seated = rest.seated ∙ l.seated; setup = rest.setup ∙ l.setup; calls = rest.calls ∙ l.calls; before = rest.before ∙ l.before }
+
+pub stays_one : (word value : ℕ) (v w : SeatView) → TellsLoad false word v value value w → Stays v w
+stays_one word value v w told =
+    let l = loads_told false word value v w told in
+    record { seated = l.seated; setup = l.setup; calls = l.calls; before = l.before }
+
+pub stays_more : (u v w : SeatView) → Stays u v → Stays v w → Stays u w
+stays_more u v w first later =
+    record { seated = later.seated ∙ first.seated; setup = later.setup ∙ first.setup; calls = later.calls ∙ first.calls; before = later.before ∙ first.before }
 
 -- the words are good where a record is known
 pub good_loaded : (word : ℕ) (values : List ℕ) (v w : SeatView) → TellsLoads word values v w → 2 ≤ word → word + length values ≤ 10 → 0 < length v.seen.history

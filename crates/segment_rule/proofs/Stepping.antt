@@ -82,7 +82,7 @@ data_told first i n v w lo hi t =
     (right_side (i == 1) _ _ (ne_eqb i 1 (λ e. absurd (omega arith))) t))))
 
 -- words that have no test
-no_test : (word value : ℕ) → (word < 2) ⊎ (10 ≤ word) → IsGoodWord word value
+pub no_test : (word value : ℕ) → (word < 2) ⊎ (10 ≤ word) → IsGoodWord word value
 no_test word value out =
     let none : (i : ℕ) → 2 ≤ i → i < 10 → word ≡ i → ⊥ = λ i lo hi is. ⊎_elim (λ (low : word < 2). absurd (omega arith)) (λ (high : 10 ≤ word). absurd (omega arith)) out in
     record {

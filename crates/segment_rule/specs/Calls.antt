@@ -1,5 +1,5 @@
 -- A client's call, in hand and at its end.
-use Rattle.std.specs.Prelude.{◌≡◌, ◌≢◌, ℕ, ◌<◌, ◌≤◌, Bool, true, false, List, [], length, Option, is_some}
+use Rattle.std.specs.Prelude.{◌≡◌, ◌≢◌, ℕ, ◌<◌, ◌≤◌, Bool, true, false, List, [], length, Option, None, Some, is_some}
 use Rattle.clock_gate.specs.declared.act.Act.TheVariants.{End}
 use Rattle.clock_gate.specs.declared.clock_row.ClockRow.{ClockRow}
 use Rattle.clock_gate.specs.declared.clock_row.Reading.{Reading}
@@ -12,6 +12,7 @@ use Rattle.interval_now.specs.Call.{Call, IsCall, Agrees, reading_taken, started
 use Rattle.interval_now.specs.CallRun.{CallCameTo}
 use Rattle.atomic_table.specs.Seated.{TableId}
 use Rattle.segment_views.specs.Views.{SeatView}
+use Rattle.segment_views.specs.Steps.{calls_of}
 use Rattle.segment_views.specs.Shown.{touches_of, IsSoundCall}
 
 -- what a stage knows of the view: a segment try in hand began with a record that is known, and a page try is of a page
@@ -47,6 +48,25 @@ pub record Holds (in_hand begun : Bool) (tries : ℕ) (call : Call) (v : SeatVie
 pub record Nows (clock : List ClockRow) (tries : ℕ) (answer : Answer) (v : SeatView) : Type 0 where
   pub came : CallCameTo clock tries (is_some v.setup.page) (touches_of v.steps) answer
   pub ran : IsSoundCall v
+
+-- what a call of so many tries has come to: an answer, or it is under way and this goes on with it
+abbrev pub ComesTo : List ClockRow → ℕ → Option Answer → Call → SeatView → Type 0
+ComesTo clock tries None call v = Going tries call v × Agrees clock (reading_taken call.stage)
+ComesTo clock tries (Some answer) call v = Nows clock tries answer v
+
+-- what the later loads of a call leave as it is
+pub record Stays (v w : SeatView) : Type 0 where
+  pub seated : w.seated ≡ v.seated
+  pub setup : w.setup ≡ v.setup
+  pub calls : w.calls ≡ v.calls
+  pub before : w.before ≡ v.before
+
+-- the view of a seat after the loads of a new call: it is one call more, which began with what had been seen
+pub record Called (v w : SeatView) : Type 0 where
+  pub seated : w.seated ≡ v.seated
+  pub setup : w.setup ≡ v.setup
+  pub calls : w.calls ≡ calls_of v
+  pub before : w.before ≡ v.seen
 
 -- a client's seat: its table, and what it has seen; whether it is the first one, and how often it was split; and of the call in hand, where
 -- there is one, whether it has made a step, its tries, the reading that it has taken, and the most steps that it still takes

@@ -4,12 +4,14 @@ ghost use Rattle.clock_gate.specs.declared.limits.TheConstants.{MOST_HOST_ROWS, 
 ghost use Rattle.clock_gate.specs.ClockRow.{IsClock};
 ghost use Rattle.segment_views.specs.Seats.{part_of};
 ghost use Rattle.segment_views.specs.Steps.{calls_of};
-ghost use Rattle.segment_rule.specs.Ruled.{TableView, MayLoadWord, TellsLoad, TellsLoads};
+ghost use Rattle.segment_rule.specs.Ruled.{TableView, MayLoadWord, TellsLoad};
 ghost use Rattle.interval_now.specs.Call.{Agrees};
 ghost use Rattle.segment_rule.specs.Calls.{ClientState, IsSameSeat, Nows};
 
+use crate::loads::load_words;
 use crate::plays::{Begin, CutClient, Load};
 use crate::table::{HostTable, Place};
+use crate::whole_call::whole_call;
 use clock_gate::{Act, ClockRow};
 use interval_now::{Answer, NowMachine};
 use std::marker::Model;
@@ -37,22 +39,6 @@ impl Model for ClientSeat {
     ghost view = { λ s. client_state s.seat.table_id s.seat.me.0 s.is_first s.splits s.in_hand s.begun s.tries s.machine };
 
     ghost invariant = { λ s. (s.seat.me.1 ≡ []) × (s.seat.me.0.seated ≡ true) × (s.support ≡ is_some s.seat.me.0.setup.page) × Holds s.in_hand s.begun s.tries s.machine s.seat.me.0 × (s.seat.me.0.setup.clients ≤ MOST_CLIENTS) };
-}
-
-// Loads words 2 to 9, one after another.
-fn load_words(table: &HostTable, seat: &mut Place) -> [u64; 8]
-    requires table { seat.old.table_id ≡ table.now.id }
-    requires seated { seat.old.me.0.seated ≡ true }
-    ensures table { seat.new.table_id ≡ seat.old.table_id }
-    ensures slots { seat.new.me.1 ≡ seat.old.me.1 }
-    ensures told { TellsLoads 2 result seat.old.me.0 seat.new.me.0 }
-    ensures eight { length result ≡ 8 }
-{
-    let mut words = [0; 8];
-    'loading: for i in 0..8 {
-        words[i] = table.table.shared.load::<Load>(seat, 2 + i);
-    }
-    words
 }
 
 impl ClientSeat {
@@ -140,7 +126,20 @@ impl ClientSeat {
         // The call begins with what the seat had seen.
         ensures before { self.new.view.before ≡ self.old.view.seen }
     {
-        self.begin(table, tries);
+        let support = self.support;
+        if let Some(answer) = whole_call(
+            table,
+            &mut self.seat,
+            &mut self.machine,
+            clock,
+            tries,
+            support,
+        ) {
+            return answer;
+        }
+        self.in_hand = true;
+        self.begun = true;
+        self.tries = tries;
         'calling: loop {
             if let Some(answer) = self.stride(table, clock) {
                 return answer;

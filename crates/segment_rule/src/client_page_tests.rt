@@ -3,7 +3,7 @@ ghost use Rattle.std.specs.Prelude.{◌≡◌, ◌≤◌, true, false, Some, len
 ghost use Rattle.clock_gate.specs.declared.limits.TheConstants.{MOST_TRIES};
 
 use super::*;
-use crate::client_tests::{a_second_later, at_once, begun, finished};
+use crate::client_tests::{a_second_later, at_once, begun, finished, now};
 use crate::tests::{clock, found_by_poll, goes_on, image, page};
 use clock_gate::ClockStatus;
 use generation_word::Layout;
@@ -89,4 +89,26 @@ fn a_page_try_that_a_page_falls_into_is_made_again(rt: HostRuntime) {
             );
         }
     }
+}
+
+// What whole calls of one try answer before the host writes a page with another marker and the clock goes on, and after.
+fn whole_calls(alloc: Global) -> Option<(Answer, Answer)> {
+    let start = page(7);
+    let (table, mut host, mut daemon, mut client) = with_page(alloc, &start)?;
+    let opening = daemon.reopen(&table);
+    let _found = found_by_poll(&mut daemon, &table, &opening.start)?;
+    let before = now(&mut client, &table, 1);
+    let _row = goes_on(&mut host, &table, &start, &page(8))?;
+    Some((before, now(&mut client, &table, 1)))
+}
+
+#[test]
+fn a_whole_call_sees_the_page_that_there_is(rt: HostRuntime) {
+    assert_eq!(rt;
+        whole_calls(rt.alloc()),
+        Some((
+            with_sequence(at_once(2, 1), 2, ClockStatus::Synchronized),
+            with_sequence(a_second_later(2), 4, ClockStatus::Disrupted)
+        ))
+    );
 }

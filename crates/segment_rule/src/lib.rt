@@ -2,6 +2,7 @@
 //!
 //! `HostTable::new` makes the table and the seats of the host, the daemon and a client. Each call runs the step machine that also
 //! `replay` runs, one step of the table for each of its acts, in whatever order threads take them; no call takes memory or waits.
+//! A client's whole call makes its first tries without the machine, which is given their loads where one fails.
 //! What a call leaves is told of the view of its own seat: the host's rows and pages, the daemon's history and point, and of daemon
 //! and clients all calls with their loads and stores.
 #![tactic(auto)]
@@ -10,9 +11,11 @@ mod client;
 mod daemon;
 mod host;
 mod laws;
+mod loads;
 mod plays;
 mod settle;
 mod table;
+mod whole_call;
 
 pub use client::ClientSeat;
 pub use daemon::DaemonSeat;

@@ -6,7 +6,8 @@ use Rattle.interval_now.specs.Call.{Call, act_of}
 use Rattle.segment_views.specs.declared.setup.Setup.{Setup}
 use Rattle.segment_rule.specs.Calls.{Going}
 use Rattle.segment_rule.proofs.Stepping.{data_known}
-use Rattle.segment_rule.proofs.LoadedWords.{Stays, stays, good_loaded, going_words, no_reading}
+use Rattle.segment_rule.specs.Calls.{Stays}
+use Rattle.segment_rule.proofs.LoadedWords.{stays, good_loaded, going_words, no_reading}
 use Rattle.segment_rule.proofs.client.ClientSeat.farther.Goals as goal
 use Rattle.segment_rule.proofs.client.ClientSeat.farther.Goals.{After-load_words-words, After-give_words}
 

@@ -1,6 +1,6 @@
 use Rattle.std.proofs.Common.{◌≡◌, ◌≤◌, length, take}
 use Rattle.segment_rule.specs.Ruled.{TellsLoads}
-use Rattle.segment_rule.proofs.client.load_words.Given as goal
+use Rattle.segment_rule.proofs.loads.load_words.Given as goal
 
 abbrev pub invariant-loading : goal.invariant-loading
 invariant-loading l = record {

@@ -1,7 +1,7 @@
 use Rattle.std.proofs.Common.{rules, ◌+◌, false, ◌∙◌, arith, take}
 use Rattle.segment_rule.proofs.Allowed.{load_allowed}
 use Rattle.segment_rule.proofs.LoadedWords.{stays, told_next}
-use Rattle.segment_rule.proofs.client.load_words.Goals as goal
+use Rattle.segment_rule.proofs.loads.load_words.Goals as goal
 
 pub load-requires : goal.load-requires
 load-requires c =
