@@ -68,6 +68,21 @@ stands_ended clock calls answers tries answer first s t hand off step nows st =
       begun = λ e f. not_both t.in_hand e off;
     }
 
+-- or was made as a whole
+pub stands_called : (clock : List ClockRow) (calls : List ℕ) (answers : List Answer) (tries : ℕ) (answer : Answer) (first : SeatView) (s t : ClientState) → s.in_hand ≡ false → t.in_hand ≡ false
+    → t.view.setup ≡ s.view.setup → t.view.calls ≡ calls_of s.view → t.view.before ≡ s.view.seen
+    → Nows clock tries answer t.view → Stands clock calls answers first s → Stands clock (calls ++ tries ∷ []) (answers ++ answer ∷ []) first t
+stands_called clock calls answers tries answer first s t rest off setup added before nows st =
+    let at : s.view ≡ st.last = st.rests rest in
+    record {
+      last = t.view;
+      calls = client_more clock calls first answers st.last tries answer t.view st.calls
+          (record { setup = setup ∙ ap (λ (v : SeatView). v.setup) at; calls = added ∙ ap calls_of at; before = before ∙ ap (λ (v : SeatView). v.seen) at; nows = nows });
+      rests = λ e. refl;
+      fresh = λ e f. not_both t.in_hand e off;
+      begun = λ e f. not_both t.in_hand e off;
+    }
+
 -- ---- many clients
 
 -- the clients before this place have had turns, and the others are as they were

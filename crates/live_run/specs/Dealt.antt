@@ -2,7 +2,7 @@
 use Rattle.std.specs.Prelude.{◌≡◌, ℕ, ◌+◌, ◌%◌, ◌<◌, ◌≤◌, List, [], ◌∷◌, ◌++◌, map, length, slice_index_or, slice_set, vec_len, vec_capacity, false}
 use Rattle.clock_gate.specs.declared.trace.CallRow.{CallRow}
 use Rattle.clock_gate.specs.declared.trace.Trace.{Trace}
-use Rattle.clock_gate.specs.Trace.{IsLawfulTrace}
+use Rattle.clock_gate.specs.Trace.{IsFrom, IsLawfulTrace}
 use Rattle.segment_rule.specs.Ruled.{TableView}
 use Rattle.segment_rule.specs.Calls.{ClientState}
 use Rattle.lawful_report.specs.Composed.{tries_of_client}
@@ -14,6 +14,19 @@ use Rattle.live_run.specs.declared.workers.Plan.{Plan}
 use Rattle.live_run.specs.Work.{CanTurn}
 
 -- ---- plans
+
+-- a call of one of so many clients
+abbrev pub IsOfClients : ℕ → CallRow → Type 0
+IsOfClients clients row = IsFrom 1 clients row.client
+
+-- a client's plan where these of all calls are still to come
+pub record IsPlanned (rows left : List CallRow) (client : ℕ) (p : Plan) : Type 0 where
+  pub calls : p.calls.items ++ tries_of_client left client ≡ tries_of_client rows client
+  pub none : p.answers.items ≡ []
+
+-- the plans of all clients then
+abbrev pub ArePlanned : (rows left : List CallRow) → List Plan → Type 0
+ArePlanned rows left plans = (k : ℕ) (d : Plan) → k < length plans → IsPlanned rows left (k + 1) (slice_index_or plans k d)
 
 pub record IsPlan (rows : List CallRow) (client : ℕ) (p : Plan) : Type 0 where
   pub calls : p.calls.items ≡ tries_of_client rows client

@@ -19,8 +19,15 @@ pub(crate) struct Client {
 }
 
 impl Client {
-    // One step of the call in hand, or of the next one. Whether calls are left.
-    fn turn<G: Gate>(&mut self, table: &HostTable, clock: &[ClockRow], gate: &G) -> bool
+    // One step of the call in hand, or of the next one; the whole of the next one where no other client waits for its turn. Whether
+    // calls are left.
+    fn turn<G: Gate>(
+        &mut self,
+        table: &HostTable,
+        clock: &[ClockRow],
+        alone: bool,
+        gate: &G,
+    ) -> bool
         requires can { CanTurn table.now clock.now self.old }
         ensures turned { TurnedFrom clock.now self.old self.new }
         ensures can { CanTurn table.now clock.now self.new }
@@ -32,7 +39,28 @@ impl Client {
         if self.seat.in_hand() {
             return self.step(table, clock, gate);
         }
+        if alone {
+            return self.call(table, clock, gate);
+        }
         self.begin(table, clock, gate)
+    }
+
+    // Makes the next call from its first step to its last.
+    fn call<G: Gate>(&mut self, table: &HostTable, clock: &[ClockRow], gate: &G) -> bool
+        requires can { CanTurn table.now clock.now self.old }
+        requires hand { self.old.seat.in_hand ≡ false }
+        requires left { vec_len self.old.answers < vec_len self.old.calls }
+        ensures turned { TurnedFrom clock.now self.old self.new }
+        ensures can { CanTurn table.now clock.now self.new }
+        ensures done { result ≡ false → vec_len self.new.answers ≡ vec_len self.new.calls }
+    {
+        let done = self.answers.len();
+        gate.pass(1 + self.number, 2 * (done as u32 + 1));
+        let most = self.calls[done];
+        let answer = self.seat.now(table, clock, most);
+        self.answers.push_reserved(answer);
+        gate.pass(1 + self.number, 2 * (done as u32 + 1) + 1);
+        done + 1 < self.calls.len()
     }
 
     // Takes the next call in hand, and makes its first step.
@@ -85,16 +113,17 @@ impl ClientWorker {
         ensures can { All (CanTurn table.now clock.now) self.new.clients.items }
         ensures done { result ≡ false → (k : ℕ) (d : Client) → k < vec_len self.old.clients → vec_len (slice_index_or self.new.clients.items k d).answers ≡ vec_len (slice_index_or self.new.clients.items k d).calls }
     {
+        let alone = self.clients.len() == 1;
         let mut busy = false;
         'clients: for place in 0..self.clients.len() {
-            if self.clients[place].turn(table, clock, gate) {
+            if self.clients[place].turn(table, clock, alone, gate) {
                 busy = true;
             }
         }
         busy
     }
 
-    /// One step in turn for each client that has a call left, until none has.
+    /// One step in turn for each client that has a call left, until none has. A client alone makes whole calls.
     #[tactic(auto, using(crate::proofs::Turns::turned_none, crate::proofs::Turns::turned_on, crate::proofs::Turns::turned_done))]
     pub fn work<R: Wait, G: Gate>(
         &mut self,

@@ -6,6 +6,7 @@ ghost use Rattle.feed_queue.specs.Feeds.{IsNext};
 ghost use Rattle.feed_queue.specs.Ends.{counted};
 ghost use Rattle.live_run.specs.Publishing.{HasPublished, PublisherBegins, IsFed};
 
+use crate::pause::Pause;
 use crate::poller::Poller;
 use crate::publisher::Publisher;
 use clock_gate::{Gate, Trace};
@@ -24,11 +25,12 @@ fn take_next<R: Wait>(rt: &R, queue: &FeedQueue, output: &mut FeedOut) -> Feed
     ensures next { IsNext output.old.polls output.old.count result }
     ensures counted { output.new ≡ counted output.old }
 {
+    let mut pause = Pause::new();
     'taking: for _ in rt.forever() {
         if let Some(feed) = output.take(rt, queue) {
             return feed;
         }
-        thread::yield_now();
+        pause.rest();
     }
     unreachable!()
 }

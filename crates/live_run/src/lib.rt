@@ -12,6 +12,7 @@ mod feeding;
 mod gather;
 mod host;
 mod lines;
+mod pause;
 mod poller;
 mod publisher;
 mod room;

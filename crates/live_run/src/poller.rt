@@ -2,12 +2,12 @@ ghost use Rattle.std.specs.Prelude.{◌≡◌, ◌≤◌, length};
 ghost use Rattle.clock_gate.specs.declared.limits.TheConstants.{MOST_POLLS};
 ghost use Rattle.feed_queue.specs.Feeds.{IsNext};
 
+use crate::pause::Pause;
 use clock_gate::{Gate, List, PollRow};
 use feed_queue::{Feed, FeedIn, FeedQueue};
 use status_machine::hear;
 use std::sync::Wait;
 use std::sync::atomic::{AtomicBool, Ordering};
-use std::thread;
 
 const POLLER: u32 = 66;
 
@@ -50,11 +50,12 @@ impl<'a> Poller<'a> {
         requires { IsNext self.old.polls.now self.old.input.count feed }
     {
         let queue = self.queue;
+        let mut pause = Pause::new();
         'putting: for _ in rt.forever() {
             if self.input.put(rt, queue, feed).is_ok() {
                 break;
             }
-            thread::yield_now();
+            pause.rest();
         }
     }
 

@@ -6,11 +6,10 @@ ghost use Rattle.clock_gate.specs.declared.trace.CallRow.{CallRow as Row};
 ghost use Rattle.clock_gate.specs.declared.trace.Trace.{Trace as Given};
 ghost use Rattle.clock_gate.specs.Trace.{IsLawfulTrace};
 ghost use Rattle.segment_rule.specs.Ruled.{TableView};
-ghost use Rattle.lawful_report.specs.Composed.{tries_of_client};
 ghost use Rattle.live_report.specs.ClientCalls.{client_first};
 ghost use Rattle.live_report.specs.LiveRun.{setup_of};
 ghost use Rattle.live_run.specs.Work.{CanTurn, IsWorker};
-ghost use Rattle.live_run.specs.Dealt.{stacks_of, Stacked, HasPlaces, IsPlan, ArePlans, CanSit, IsReady, IsDealt};
+ghost use Rattle.live_run.specs.Dealt.{stacks_of, Stacked, HasPlaces, IsOfClients, ArePlanned, ArePlans, CanSit, IsReady, IsDealt};
 
 use crate::clients::{Client, ClientWorker};
 use clock_gate::{CallRow, Trace};
@@ -25,39 +24,57 @@ pub(crate) struct Plan {
     pub answers: Vec<Answer>,
 }
 
-// The tries of a client's calls.
-fn tries_of(alloc: Global, rows: &[CallRow], client: u32) -> Result<Vec<u16>, AllocError>
-    ensures { IfOk result (λ tries. tries.items ≡ tries_of_client rows.now client) }
+// Plans of so many clients, of which no call is known yet.
+fn bare_plans(alloc: Global, clients: u32) -> Result<Vec<Plan>, AllocError>
+    ensures len { IfOk result (λ plans. vec_len plans ≡ clients) }
+    ensures planned { (rows : List Row) → IfOk result (λ plans. ArePlanned rows rows plans.items) }
 {
-    let mut tries = Vec::new(alloc);
-    'rows: for row in rows {
-        if row.client == client {
-            tries.push(row.tries)?;
-        }
+    let mut plans = Vec::new(alloc);
+    'clients: for _ in 0..clients {
+        plans.push(Plan {
+            calls: Vec::new(alloc),
+            answers: Vec::new(alloc),
+        })?;
     }
-    Ok(tries)
+    Ok(plans)
 }
 
-fn plan_of(alloc: Global, rows: &[CallRow], client: u32) -> Result<Plan, AllocError>
-    ensures { IfOk result (IsPlan rows.now client) }
+// Each call goes to the plan of its client.
+fn with_calls(plans: Vec<Plan>, rows: &[CallRow]) -> Result<Vec<Plan>, AllocError>
+    requires clients { All (IsOfClients (vec_len plans)) rows.now }
+    requires planned { ArePlanned rows.now rows.now plans.items }
+    ensures len { IfOk result (λ all. vec_len all ≡ vec_len plans) }
+    ensures planned { IfOk result (λ all. ArePlanned rows.now [] all.items) }
 {
-    let calls = tries_of(alloc, rows, client)?;
-    let mut answers = Vec::new(alloc);
-    answers.reserve(calls.len())?;
-    Ok(Plan { calls, answers })
+    let mut plans = plans;
+    'rows: for row in rows {
+        plans[row.client as usize - 1].calls.push(row.tries)?;
+    }
+    Ok(plans)
+}
+
+// Each plan has room for as many answers as calls.
+fn with_room(plans: Vec<Plan>) -> Result<Vec<Plan>, AllocError>
+    ensures len { IfOk result (λ all. vec_len all ≡ vec_len plans) }
+    ensures plans { (rows : List Row) → ArePlanned rows [] plans.items → IfOk result (λ all. ArePlans rows 1 all.items) }
+{
+    let mut plans = plans;
+    'plans: for place in 0..plans.len() {
+        let calls = plans[place].calls.len();
+        plans[place].answers.reserve(calls)?;
+    }
+    Ok(plans)
 }
 
 /// The plans of all clients, in their order.
 pub(crate) fn plans(alloc: Global, rows: &[CallRow], clients: u32) -> Result<Vec<Plan>, AllocError>
-    requires { clients ≤ MOST_CLIENTS }
+    requires { All (IsOfClients clients) rows.now }
     ensures plans { IfOk result (λ plans. ArePlans rows.now 1 plans.items) }
     ensures len { IfOk result (λ plans. vec_len plans ≡ clients) }
 {
-    let mut plans = Vec::new(alloc);
-    'clients: for before in 0..clients {
-        plans.push(plan_of(alloc, rows, before + 1)?)?;
-    }
-    Ok(plans)
+    let bare = bare_plans(alloc, clients)?;
+    let planned = with_calls(bare, rows)?;
+    with_room(planned)
 }
 
 /// So many workers without clients, each with room for all of them.

@@ -6,7 +6,7 @@ use interval_now::Answer;
 use live_report::Line;
 use live_run::run_trace;
 use read_runs::read_runs_laws;
-use std::alloc::Global;
+use std::alloc::{AllocError, Global};
 use std::sync::Wait;
 use std::sync::atomic::{AtomicU64, Ordering};
 use std::test::Fail;
@@ -79,27 +79,97 @@ fn hold(who: u32, point: u32, other: u32, there: u32) -> Hold {
     }
 }
 
+// A good reply of chrony's.
+const REPLY: &str =
+    "06020000002100050000000000000000000000010000000000000000a9fea97ba9fea97b0000000000000000000000000001000000040000000000006500000000000000f7ffffff0000000000000000000000000000000000000000ec800000ea80000000000000";
+
+// A trace of one row of the clock, so many polls with a good reply, and these calls.
+fn polled(alloc: Global, polls: u32, calls: &str) -> Result<String, AllocError> {
+    let mut text = String::new(alloc);
+    text.push_str("clockbound-trace,1\nclock,1000000000,1700000000000000000\n")?;
+    for _ in 0..polls {
+        text.push_str("poll,")?;
+        text.push_str(REPLY)?;
+        text.push_str("\n")?;
+    }
+    text.push_str(calls)?;
+    Ok(text)
+}
+
+// A gate that holds each worker as the list says.
+fn holding(alloc: Global, list: &[Hold]) -> Result<Holding, AllocError> {
+    let mut holds = Vec::new(alloc);
+    holds.extend_from_slice(list)?;
+    Ok(Holding {
+        holds,
+        passed: zeros(alloc, 68)?,
+        late: AtomicU64::new(0),
+    })
+}
+
+// The client's first call waits for the first poll, the second poll for that call, and so on: who is run after the other is late.
+#[test]
+fn the_daemon_and_a_client_run_side_by_side(rt: HostRuntime) -> Result<(), Fail> {
+    let alloc: Global = rt.alloc();
+    let gate = holding(
+        alloc,
+        &[
+            hold(2, 2, 1, 3),
+            hold(1, 4, 2, 3),
+            hold(2, 4, 1, 5),
+            hold(1, 6, 2, 5),
+        ],
+    )?;
+    let text = polled(alloc, 3, "call,1\ncall,1\n")?;
+    let lines = lines(&rt, alloc, text.as_str(), 1, &gate).ok_or("a run")?;
+    assert_eq!(rt; gate.late.load(Ordering::SeqCst), 0, "late");
+    assert_eq!(rt; lines.len(), 6);
+    let expected = [
+        ("open", 1, 0),
+        ("pub", 1, 2),
+        ("pub", 2, 4),
+        ("pub", 3, 6),
+        ("time", 1, 1002),
+        ("time", 1, 2004),
+    ];
+    for (line, expected) in lines.as_slice().iter().zip(expected) {
+        assert_eq!(rt; told(line), expected);
+    }
+    Ok(())
+}
+
+// The daemon waits before poll 2 until feed 3 is put, and the poller before feed 10 until poll 1 is done.
+#[test]
+fn the_poller_and_the_daemon_run_side_by_side(rt: HostRuntime) -> Result<(), Fail> {
+    let alloc: Global = rt.alloc();
+    let gate = holding(alloc, &[hold(1, 4, 66, 7), hold(66, 20, 1, 3)])?;
+    let text = polled(alloc, 10, "")?;
+    let lines = lines(&rt, alloc, text.as_str(), 1, &gate).ok_or("a run")?;
+    assert_eq!(rt; gate.late.load(Ordering::SeqCst), 0, "late");
+    assert_eq!(rt; lines.len(), 11);
+    for (place, line) in lines.as_slice().iter().enumerate().skip(1) {
+        let number = place as u32;
+        assert_eq!(rt; told(line), ("pub", number, number.saturating_mul(2)));
+    }
+    Ok(())
+}
+
 // The host, the daemon and client 1 hold each other, and the daemon and the poller too.
 #[test]
 fn host_poller_daemon_and_a_client_run_side_by_side(rt: HostRuntime) -> Result<(), Fail> {
     let alloc: Global = rt.alloc();
-    let mut holds = Vec::new(alloc);
-    for (who, point, other, there) in [
-        (2, 2, 1, 3),
-        (1, 4, 2, 3),
-        (2, 4, 1, 5),
-        (1, 6, 2, 5),
-        (1, 4, 66, 7),
-        (66, 20, 1, 3),
-        (0, 4, 2, 3),
-    ] {
-        holds.push(hold(who, point, other, there))?;
-    }
-    let gate = Holding {
-        holds,
-        passed: zeros(alloc, 68)?,
-        late: AtomicU64::new(0),
-    };
+    let gate = holding(
+        alloc,
+        &[
+            hold(2, 2, 1, 3),
+            hold(1, 4, 2, 3),
+            hold(2, 4, 1, 5),
+            hold(1, 6, 2, 5),
+            hold(1, 4, 66, 7),
+            hold(66, 20, 1, 3),
+            hold(0, 4, 2, 3),
+        ],
+    )?;
     let lines = lines(&rt, alloc, TEN_POLLS, 1, &gate).ok_or("a run")?;
     assert_eq!(rt; gate.late.load(Ordering::SeqCst), 0, "late");
     assert_eq!(rt; lines.len(), 13);

@@ -1,12 +1,13 @@
-use Rattle.std.proofs.Common.{rules, List, ap, ◌∙◌, subst, arith}
+use Rattle.std.proofs.Common.{rules, List, sym, ap, ◌∙◌, subst, arith, All}
 use Rattle.clock_gate.specs.declared.trace.CallRow.{CallRow}
-use Rattle.live_run.specs.Dealt.{ArePlans}
+use Rattle.live_run.specs.Dealt.{IsOfClients, ArePlans}
 use Rattle.feed_queue.specs.Ends.{End}
 use Rattle.live_report.proofs.Clients.{clients_within}
+use Rattle.live_run.proofs.Planning.{calls_within}
 use Rattle.live_run.proofs.room.room_for.Goals as goal
 
 pub plans-requires : goal.plans-requires
-plans-requires c = (clients_within c.args.trace.now c.requires.lawful).1
+plans-requires c = subst (λ (l : List CallRow). All (IsOfClients c.args.trace.now.clients) l) (sym c.as_slice.ensures) (calls_within c.args.trace.now c.requires.lawful)
 
 pub idle_workers-requires : goal.idle_workers-requires
 idle_workers-requires c =
