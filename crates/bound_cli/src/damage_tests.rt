@@ -1,10 +1,14 @@
 // For every command each call that reads or writes fails in turn, in pieces of several sizes. How many calls there are follows from the
 // lengths of input and output.
 use super::*;
-use crate::tests::{IMAGE, PAGE, REPLY, TRACE, served};
+use crate::tests::{IMAGE, PAGE, REPLY, TRACE, outside, served};
+use crate::threads_tests::threaded;
+use clock_gate::NoGate;
 use std::alloc::Global;
 use std::process::Abort;
+use std::sync::Wait;
 use std::test::Fail;
+use std::thread::Threads;
 
 const PIECES: [usize; 3] = [1, 7, 10];
 
@@ -13,9 +17,30 @@ fn calls_for(bytes: usize, piece: usize) -> u64 {
     bytes.div_ceil(piece.max(1)) as u64
 }
 
+// What the program does by these words, and what is written: it runs `threads` side by side and serves every other command.
+fn answered<R: Threads + Wait + Sync>(
+    rt: &R,
+    alloc: Global,
+    words: &[&str],
+    text: &str,
+    piece: usize,
+    read_fails: &[u64],
+    write_fails: &[u64],
+) -> Result<(Status, Vec<u8>), Fail> {
+    let text = text.as_bytes();
+    match words {
+        ["threads", ..] => {
+            let outside = outside(alloc, text, piece, read_fails, 10_000, write_fails)?;
+            let told = threaded(rt, alloc, words, outside, &NoGate)?;
+            Ok((told.status, told.written))
+        }
+        _ => served(alloc, words, text, piece, read_fails, 10_000, write_fails),
+    }
+}
+
 // Each read fails in turn, also the one that finds the end: nothing is written.
-fn each_read_fails(
-    rt: &impl Abort,
+fn each_read_fails<R: Abort + Threads + Wait + Sync>(
+    rt: &R,
     alloc: Global,
     words: &[&str],
     text: &str,
@@ -23,46 +48,30 @@ fn each_read_fails(
 ) -> Result<(), Fail> {
     let last = calls_for(text.len(), piece).saturating_add(1);
     for number in 1..last.saturating_add(1) {
-        let (status, written) = served(
-            alloc,
-            words,
-            text.as_bytes(),
-            piece,
-            &[number],
-            10_000,
-            &[],
-        )?;
+        let (status, written) = answered(rt, alloc, words, text, piece, &[number], &[])?;
         assert_eq!(rt; status, Status::Read, "read {number} in pieces of {piece}");
         assert!(rt; written.is_empty(), "read {number} in pieces of {piece}");
     }
     let later = [last.saturating_add(1)];
-    let (status, _) = served(alloc, words, text.as_bytes(), piece, &later, 10_000, &[])?;
+    let (status, _) = answered(rt, alloc, words, text, piece, &later, &[])?;
     assert_eq!(rt; status, Status::Ok, "no read fails in pieces of {piece}");
     Ok(())
 }
 
 // Each write fails in turn: a front of the output was written, and not all of it.
-fn each_write_fails(
-    rt: &impl Abort,
+fn each_write_fails<R: Abort + Threads + Wait + Sync>(
+    rt: &R,
     alloc: Global,
     words: &[&str],
     text: &str,
     piece: usize,
 ) -> Result<(), Fail> {
-    let (status, whole) = served(alloc, words, text.as_bytes(), piece, &[], 10_000, &[])?;
+    let (status, whole) = answered(rt, alloc, words, text, piece, &[], &[])?;
     assert_eq!(rt; status, Status::Ok, "no write fails in pieces of {piece}");
     assert!(rt; !whole.is_empty());
     let last = calls_for(whole.len(), piece);
     for number in 1..last.saturating_add(1) {
-        let (status, written) = served(
-            alloc,
-            words,
-            text.as_bytes(),
-            piece,
-            &[],
-            10_000,
-            &[number],
-        )?;
+        let (status, written) = answered(rt, alloc, words, text, piece, &[], &[number])?;
         assert_eq!(rt;
             status,
             Status::Write,
@@ -78,13 +87,18 @@ fn each_write_fails(
         );
     }
     let later = [last.saturating_add(1)];
-    let (status, written) = served(alloc, words, text.as_bytes(), piece, &[], 10_000, &later)?;
+    let (status, written) = answered(rt, alloc, words, text, piece, &[], &later)?;
     assert_eq!(rt; status, Status::Ok, "no write fails in pieces of {piece}");
     assert_eq!(rt; written.as_slice(), whole.as_slice());
     Ok(())
 }
 
-fn each_call_fails(rt: &impl Abort, alloc: Global, words: &[&str], text: &str) -> Result<(), Fail> {
+fn each_call_fails<R: Abort + Threads + Wait + Sync>(
+    rt: &R,
+    alloc: Global,
+    words: &[&str],
+    text: &str,
+) -> Result<(), Fail> {
     for piece in PIECES {
         each_read_fails(rt, alloc, words, text, piece)?;
         each_write_fails(rt, alloc, words, text, piece)?;
@@ -94,14 +108,17 @@ fn each_call_fails(rt: &impl Abort, alloc: Global, words: &[&str], text: &str) -
 
 #[test]
 fn each_call_of_a_replay_fails(rt: HostRuntime) -> Result<(), Fail> {
-    for words in [
-        ["replay"].as_slice(),
-        ["replay", "--civil"].as_slice(),
-        ["order", "1000000000"].as_slice(),
-    ] {
-        each_call_fails(&rt, rt.alloc(), words, TRACE)?;
-    }
-    Ok(())
+    each_call_fails(&rt, rt.alloc(), &["replay"], TRACE)
+}
+
+#[test]
+fn each_call_of_a_replay_with_civil_times_fails(rt: HostRuntime) -> Result<(), Fail> {
+    each_call_fails(&rt, rt.alloc(), &["replay", "--civil"], TRACE)
+}
+
+#[test]
+fn each_call_of_an_order_fails(rt: HostRuntime) -> Result<(), Fail> {
+    each_call_fails(&rt, rt.alloc(), &["order", "1000000000"], TRACE)
 }
 
 #[test]
@@ -130,18 +147,32 @@ fn each_call_over_pages_and_clocks_fails(rt: HostRuntime) -> Result<(), Fail> {
     Ok(())
 }
 
+// Polls without calls and calls without polls: all runs have one report.
+#[test]
+fn each_call_of_threads_fails(rt: HostRuntime) -> Result<(), Fail> {
+    for text in [
+        "clockbound-trace,1\nclock,5,6\npoll,,10\npoll,\n",
+        "clockbound-trace,1\nclock,5,6\ncall,1\ncall,2\n",
+    ] {
+        each_call_fails(&rt, rt.alloc(), &["threads"], text)?;
+        each_call_fails(&rt, rt.alloc(), &["threads", "--workers", "1"], text)?;
+    }
+    Ok(())
+}
+
 // A drill reads nothing.
 #[test]
 fn each_write_of_a_drill_fails(rt: HostRuntime) -> Result<(), Fail> {
     for piece in PIECES {
         each_write_fails(&rt, rt.alloc(), &["drill", "0", "6"], "", piece)?;
-        each_write_fails(
-            &rt,
-            rt.alloc(),
-            &["drill", "0", "6", "--trace"],
-            "",
-            piece.max(7),
-        )?;
+    }
+    Ok(())
+}
+
+#[test]
+fn each_write_of_a_generated_day_fails(rt: HostRuntime) -> Result<(), Fail> {
+    for piece in PIECES {
+        each_write_fails(&rt, rt.alloc(), &["drill", "0", "6", "--trace"], "", piece)?;
     }
     Ok(())
 }

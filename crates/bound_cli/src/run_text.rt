@@ -59,20 +59,22 @@ fn workers_taken(workers: Option<u32>, trace: &Trace) -> u32
     }
 }
 
-/// The run of a text's trace with its report, or the fault of its first refused line.
+/// The run of a text's trace with its report, or the fault of its first refused line. The text is given up before the run, so that the run
+/// has its memory.
 pub fn run_of_text<R: Threads + Wait + Sync, G: Gate + Sync>(
     rt: &R,
     alloc: Global,
-    bytes: &[u8],
+    bytes: Vec<u8>,
     workers: Option<u32>,
     gate: &G,
 ) -> Result<Made, TraceError>
     requires some { IfSome workers (λ number. 1 ≤ number) }
     requires most { IfSome workers (λ number. number ≤ MOST_CLIENTS) }
-    ensures { MakesRun bytes.now result }
+    ensures { MakesRun bytes.items result }
 {
     read_runs_laws();
-    let trace = read_trace(alloc, bytes)?;
+    let trace = read_trace(alloc, bytes.as_slice())?;
+    drop(bytes);
     let workers = workers_taken(workers, &trace);
     match run_and_report(rt, alloc, &trace, workers, gate) {
         Ok(made) => Ok(made),

@@ -28,12 +28,31 @@ total,1,1,1,0,1,0,0
 premises,held
 ";
 
-fn words(alloc: Global, words: &[&str]) -> Result<Vec<String>, AllocError> {
+pub(crate) fn words(alloc: Global, words: &[&str]) -> Result<Vec<String>, AllocError> {
     let mut all = Vec::new(alloc);
     for word in words {
         all.push(String::from_str(alloc, word)?)?;
     }
     Ok(all)
+}
+
+// A source of this text and an empty sink, where each call moves at most so many bytes and the calls of these numbers fail.
+pub(crate) fn outside(
+    alloc: Global,
+    text: &[u8],
+    piece: usize,
+    read_fails: &[u64],
+    room: usize,
+    write_fails: &[u64],
+) -> Result<(MemSource, MemSink), Fail> {
+    let piece = piece.max(1);
+    let text = List::from_vec(text.to_vec(alloc)?);
+    let source = MemSource::new(text, piece, List::from_vec(read_fails.to_vec(alloc)?));
+    let fails = List::from_vec(write_fails.to_vec(alloc)?);
+    match MemSink::new(alloc, room, piece, fails) {
+        Ok(sink) => Ok((source, sink)),
+        Err(_) => Err(Fail::from("there is memory")),
+    }
 }
 
 // What these words come to over a text, and what is written, where each call moves at most so many bytes and the calls of
@@ -48,13 +67,7 @@ pub(crate) fn served(
     write_fails: &[u64],
 ) -> Result<(Status, Vec<u8>), Fail> {
     let words = words(alloc, given)?;
-    let piece = piece.max(1);
-    let text = List::from_vec(text.to_vec(alloc)?);
-    let mut source = MemSource::new(text, piece, List::from_vec(read_fails.to_vec(alloc)?));
-    let fails = List::from_vec(write_fails.to_vec(alloc)?);
-    let Ok(mut sink) = MemSink::new(alloc, room, piece, fails) else {
-        return Err(Fail::from("there is memory"));
-    };
+    let (mut source, mut sink) = outside(alloc, text, piece, read_fails, room, write_fails)?;
     let status = serve(alloc, &words, &mut source, &mut sink);
     Ok((status, sink.bytes().to_vec(alloc)?))
 }
@@ -83,7 +96,7 @@ fn carried(
     )
 }
 
-fn refused(line: u32, reason: Reason) -> Status {
+pub(crate) fn refused(line: u32, reason: Reason) -> Status {
     Status::Trace { line, reason }
 }
 
@@ -189,12 +202,17 @@ fn the_first_refused_line_is_named_with_its_reason(rt: HostRuntime) -> Result<()
 pub(crate) const REPLY: &str =
     "06020000002100050000000000000000000000010000000000000000a9fea97ba9fea97b0000000000000000000000000001000000040000000000006500000000000000f7ffffff0000000000000000000000000000000000000000ec800000ea80000000000000";
 
-// The report on these lines, where `A` stands for the reply, `I` for the image and `P` for the page.
-fn reported(alloc: Global, lines: &str) -> Result<(Status, Vec<u8>), Fail> {
+// The trace of these lines, where `A` stands for the reply, `I` for the image and `P` for the page.
+pub(crate) fn trace_of(alloc: Global, lines: &str) -> Result<String, AllocError> {
     let lines = lines.replace(alloc, "A", REPLY)?;
     let lines = lines.replace(alloc, "I", IMAGE)?;
     let lines = lines.replace(alloc, "P", PAGE)?;
-    let text = format!(in alloc; "clockbound-trace,1\n{lines}")?;
+    format!(in alloc; "clockbound-trace,1\n{lines}")
+}
+
+// The report on these lines.
+fn reported(alloc: Global, lines: &str) -> Result<(Status, Vec<u8>), Fail> {
+    let text = trace_of(alloc, lines)?;
     replayed(alloc, text.as_bytes())
 }
 

@@ -92,7 +92,7 @@ pub fn serve_threads<R: Threads + Wait + Sync, S: Source, K: Sink, G: Gate + Syn
         Err(ReadError::TooLong) => return without_run(Status::TooLong),
         Err(ReadError::Memory) => return without_run(Status::Memory),
     };
-    let Made { table, ran, text } = match run_of_text(rt, alloc, &bytes, workers, gate) {
+    let Made { table, ran, text } = match run_of_text(rt, alloc, bytes, workers, gate) {
         Ok(made) => made,
         Err(TraceError::Refused(fault)) => {
             return without_run(Status::Trace {
