@@ -14,6 +14,8 @@ EXAMPLES = {
     ("replay",): "steady.trace",
     ("replay", "--civil"): "steady.trace",
     ("order", "1000000"): "steady.trace",
+    ("threads",): "steady.trace",
+    ("threads", "--workers", "2"): "steady.trace",
     ("audit",): "judged-report.txt",
     ("pagetime",): "page-reads.txt",
     ("agree",): "four-clocks.txt",

@@ -4,7 +4,7 @@ of 1,000 servers with 1,000 questions among them; `turns`, 50,000,000 turns of t
 `lines`, 49,999,950 turns in 999,999 lines, most of them of parties without a job; `calls`, 100,000 polls and 300,000 calls; `polls`, 20,000
 polls, each with its clock row and three calls, and 800,000 lines of any party's turns; `full`, seconds of a clock row with its true time, a poll and
 three calls until 16 MiB are full; `clients`, 300,000 calls of 64 clients before a first record, after 1,000 of them, and while an update is open; `seconds`,
-27,000 of those seconds.
+27,000 of those seconds; `shared`, 20,000 of those seconds' readings and polls, from a whole record on, and 300,000 calls of 64 clients, for threads.
 texts.py reported TRACE REPORT: a trace without its lines of turns, the line `report`, and what `replay` reports of it, in the order of
 threads, which is lawful."""
 import pathlib
@@ -13,6 +13,7 @@ import sys
 
 TOP = pathlib.Path(__file__).resolve().parent.parent
 REPLY = (TOP / "examples" / "steady-reply.hex").read_text().strip()
+IMAGE = (TOP / "examples" / "kept-image.hex").read_text().strip()
 PAGE = (TOP / "examples" / "page-reads.txt").read_text().splitlines()[1].split(",")[1]
 
 
@@ -110,6 +111,17 @@ def clients():
         yield f"call,{k % 64 + 1}"
 
 
+def shared():
+    """With a record at the start each call reads a whole one; without it those before the first publication would take one load."""
+    draw = random.Random(1)
+    yield "clockbound-trace,1"
+    yield f"image,{IMAGE}"
+    for k in range(2, 20_002):
+        yield from second(k, draw)[:2]
+    for k in range(300_000):
+        yield f"call,{k % 64 + 1}"
+
+
 def reported(trace, report):
     rows = pathlib.Path(report).read_text().splitlines()[:-1]
     answers = sorted((row for row in rows if row.startswith("ans,")), key=lambda row: [int(n) for n in row.split(",")[1:3]])
@@ -130,9 +142,10 @@ def lines():
 
 def main():
     texts = {"reads": reads, "spans": spans, "turns": turns, "calls": calls, "lines": lines, "polls": polls, "full": full,
-             "seconds": seconds, "clients": clients, "reported": reported}
+             "seconds": seconds, "clients": clients, "shared": shared, "reported": reported}
     for line in texts[sys.argv[1]](*sys.argv[2:]):
         print(line)
 
 
-main()
+if __name__ == "__main__":
+    main()
