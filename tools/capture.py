@@ -4,7 +4,7 @@
 
 Each poll has a clock row before the request and one after the reply, with a call at the latter; further calls have rows of their own. The
 lines of the schedule let the poll load the row before its request, and after the reply the row after it. chronyd is asked by its
-command protocol and nothing is changed in it. Where it doesn't answer, the poll has no reply."""
+command protocol and nothing is changed in it. Where it doesn't answer, the poll has no reply; where it answered no poll, the exit status is 1."""
 import argparse
 import bisect
 import os
@@ -16,6 +16,7 @@ import time
 
 MONOTONIC = {"monotonic": time.CLOCK_MONOTONIC, "monotonic_raw": time.CLOCK_MONOTONIC_RAW, "boottime": time.CLOCK_BOOTTIME}
 COARSE_MONOTONIC, COARSE_REALTIME = 6, 5  # of Linux; Python's time doesn't name them
+STEERED = ("CLOCK_REALTIME", "CLOCK_TAI")  # what chronyd steers: CLOCK_TAI is CLOCK_REALTIME and a whole number of seconds
 LONGEST_TRACE = 16_777_216  # bytes that clockbound reads
 READING_TRIES = 9
 
@@ -64,7 +65,8 @@ def difference():
 
 
 class TrustedClock:
-    """A second clock that is trusted to have true time: a PTP device, or a clock of the machine by its name in Python's time."""
+    """A second clock that is trusted to have true time: a PTP device, or a clock of the machine by its name in Python's time, which is
+    of use only where chronyd doesn't steer it."""
 
     def __init__(self, name, seconds, clock):
         self.clock, self.shift, self.samples = clock, round(seconds * 10**9), []
@@ -196,12 +198,13 @@ class Capture:
         """A call, done at once."""
         self.lines += ["call,1", "do,c1,1"]
 
-    def warning(self):
-        """What is to be said of a chronyd that answered no poll."""
-        place = self.given.socket or f"{self.given.host}, UDP port {self.given.port}"
-        if self.replies:
-            return ""
-        return f"no poll was answered ({place}): is a chronyd running there, and does its cmdport or bindcmdaddress allow this?"
+    def warnings(self):
+        """What a reader of the trace has to know: that chronyd answered no poll, or that true time is by the clock that it steers."""
+        if self.given.truth in STEERED:
+            yield f"{self.given.truth} is the clock that chronyd steers: as true time it tells nothing, unless that chronyd runs with -x"
+        if not self.replies:
+            place = self.given.socket or f"{self.given.host}, UDP port {self.given.port}"
+            yield f"no poll was answered ({place}): is a chronyd running there, and does its cmdport or bindcmdaddress allow this (or --socket)?"
 
     def text(self):
         """The whole trace."""
@@ -231,7 +234,7 @@ def words():
     parser.add_argument("--wait", type=float, default=0.5, metavar="SECONDS", help="for a reply (0.5)")
     parser.add_argument("--clock", choices=MONOTONIC, default="monotonic", help="the clock of MONO (monotonic)")
     parser.add_argument("--drift", type=int, metavar="PPB", help="the drift that the trace sets")
-    parser.add_argument("--truth", metavar="CLOCK", help="a trusted second clock, a device as /dev/ptp0 or a name as CLOCK_TAI")
+    parser.add_argument("--truth", metavar="CLOCK", help="a trusted second clock, as /dev/ptp0; CLOCK_REALTIME where chronyd runs with -x")
     parser.add_argument("--truth-offset", type=float, default=0, metavar="SECONDS", help="to add to the trusted clock (0)")
     return parser
 
@@ -257,9 +260,10 @@ def main():
         check(given)
         capture = Capture(given)
         capture.run()
-        if capture.warning():
-            print(f"capture.py: {capture.warning()}", file=sys.stderr)
+        for warning in capture.warnings():
+            print(f"capture.py: {warning}", file=sys.stderr)
         sys.stdout.write(capture.text())
+        sys.exit(0 if capture.replies else 1)
     except Refused as fault:
         print(f"capture.py: {fault}", file=sys.stderr)
         sys.exit(2)

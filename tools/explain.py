@@ -245,7 +245,8 @@ class Explainer:
         if broken == UNCLEAR:
             return "Whether its promises were kept isn't to be told from the report: it names another answer, and this one depends on the turns."
         named = self.report.premises[1:3] == [self.answer.client, self.answer.call]
-        who = "The report's last line names this answer, the first whose promises weren't kept" if named else "Its promises weren't kept"
+        fate = "can't be said to be kept" if broken[0] == "untold" else "weren't kept"
+        who = f"The report's last line names this answer, the first whose promises {fate}" if named else f"Its promises {fate}"
         return f"{who}: {broken[0]}, at {broken[1]}. {self.say_broken(*broken)}"
 
     # What a broken promise means.
@@ -302,10 +303,10 @@ def explained(trace_path, report_path, client, call):
 def main():
     """The command."""
     parser = argparse.ArgumentParser(description=__doc__.split("\n\n")[0])
-    parser.add_argument("trace")
-    parser.add_argument("report")
-    parser.add_argument("client", type=int)
-    parser.add_argument("call", type=int)
+    parser.add_argument("trace", help="what `clockbound replay` read")
+    parser.add_argument("report", help="what it wrote")
+    parser.add_argument("client", type=int, help="the number after `ans` in the report")
+    parser.add_argument("call", type=int, help="the number after that")
     given = parser.parse_args()
     try:
         sys.stdout.write(explained(given.trace, given.report, given.client, given.call))

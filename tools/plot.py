@@ -233,8 +233,8 @@ class Picture:
 def main():
     """The command."""
     parser = argparse.ArgumentParser(description=__doc__.split("\n\n")[0])
-    parser.add_argument("trace")
-    parser.add_argument("report")
+    parser.add_argument("trace", help="what `clockbound replay` read")
+    parser.add_argument("report", help="what it wrote")
     given = parser.parse_args()
     try:
         trace, report = read_trace(given.trace), read_report(given.report)

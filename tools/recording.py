@@ -318,7 +318,7 @@ def read_report(path):
         except (ValueError, KeyError, IndexError, TypeError):
             raise Unreadable(f"{path}: line {number} is no line of a report") from None
     if not report.premises:
-        raise Unreadable(f"{path}: the report has no last line, premises")
+        raise Unreadable(f"{path}: the report has no last line, premises (a report of threads has none)")
     return report
 
 
