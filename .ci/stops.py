@@ -2,7 +2,7 @@
 """stops.py PROGRAM: what `replay` tells of a daemon that stops among a publication's stores.
 
 On images of several generations, in both layouts, a poll stops after each number of stores; the next opening has to find what the table
-below says, and to publish the number beside it. The table stands by itself: it is computed from nothing."""
+below says, and to publish the number beside it. The table was reasoned from the stores, not computed."""
 
 import struct
 import subprocess
