@@ -20,6 +20,7 @@ pub mod AnswersShown
 pub mod ClientsShown
 pub mod ReportText
 pub mod ReportLines
+pub mod Parts
 pub mod CallsMade
 pub mod Clients
 pub mod FewLines

@@ -20,21 +20,21 @@ Matches [] (said ∷ answers) = ⊥
 Matches (client ∷ clients) [] = ⊥
 Matches (client ∷ clients) (said ∷ answers) = Matches clients answers
 
+pub counted_append : (counts : Counts) (xs ys : List Line) → lines_counted counts (xs ++ ys) ≡ lines_counted (lines_counted counts xs) ys
+counted_append counts [] ys = refl
+counted_append counts (x ∷ xs) ys = counted_append (line_counted counts x) xs ys
+
 module _ (trace : Trace) where
   -- the position after these lines
-  abbrev position_after_lines : ℕ → List Line → ℕ
+  abbrev pub position_after_lines : ℕ → List Line → ℕ
   position_after_lines position [] = position
   position_after_lines position (line ∷ later) = position_after_lines (position_after_line position line) later
 
-  printed_append : (position : ℕ) (xs ys : List Line) → lines_printed trace position (xs ++ ys) ≡ lines_printed trace position xs ++ lines_printed trace (position_after_lines position xs) ys
+  pub printed_append : (position : ℕ) (xs ys : List Line) → lines_printed trace position (xs ++ ys) ≡ lines_printed trace position xs ++ lines_printed trace (position_after_lines position xs) ys
   printed_append position [] ys = refl
   printed_append position (x ∷ xs) ys =
       ap (λ (l : List Printed). line_printed trace position x ++ l) (printed_append (position_after_line position x) xs ys)
       ∙ sym (append_assoc (line_printed trace position x) (lines_printed trace (position_after_line position x) xs) (lines_printed trace (position_after_lines (position_after_line position x) xs) ys))
-
-  counted_append : (counts : Counts) (xs ys : List Line) → lines_counted counts (xs ++ ys) ≡ lines_counted (lines_counted counts xs) ys
-  counted_append counts [] ys = refl
-  counted_append counts (x ∷ xs) ys = counted_append (line_counted counts x) xs ys
 
   -- the lines of one client
   answers_printed : (position client number : ℕ) (answers : List Answer) (more : List Line) → lines_printed trace position (answer_lines client number answers ++ more) ≡ answered_lines client number (map (said_of trace) answers) ++ lines_printed trace position more

@@ -1,12 +1,12 @@
 //! What the lines of a run count.
-ghost use Rattle.std.specs.Prelude.{◌≡◌, ◌≤◌, ◌+◌, ℕ, length};
+ghost use Rattle.std.specs.Prelude.{◌≡◌, ◌≤◌, ◌+◌, ◌-◌, ℕ, length};
 ghost use Rattle.lawful_report.specs.Lawful.{no_counts, one_answer, one_publication, one_time};
 ghost use Rattle.live_report.specs.declared.limits.TheConstants.{MOST_LINES};
-ghost use Rattle.live_report.specs.Counted.{AreUpTo};
+ghost use Rattle.live_report.specs.Counted.{AreUpTo, answers_counted, answers_in, clients_counted};
 ghost use Rattle.live_report.specs.LiveReport.{line_counted, lines_counted, poll_counted};
 
 use crate::line::Line;
-use clock_gate::ClockStatus;
+use clock_gate::{ClockStatus, List};
 use interval_now::Answer;
 use lawful_report::Counts;
 use writer_reopen::Polled;
@@ -86,10 +86,11 @@ fn line_counted(counts: Counts, line: &Line) -> Counts
     }
 }
 
-/// The counts of these lines.
-pub(crate) fn counts_of(lines: &[Line]) -> Counts
+// The counts of the daemon's lines.
+fn lines_counted(lines: &[Line]) -> Counts
     requires { length lines.now ≤ MOST_LINES }
-    ensures { result ≡ lines_counted no_counts lines.now }
+    ensures value { result ≡ lines_counted no_counts lines.now }
+    ensures most { AreUpTo (length lines.now) result }
 {
     let mut counts = Counts {
         publications: 0,
@@ -104,4 +105,39 @@ pub(crate) fn counts_of(lines: &[Line]) -> Counts
         counts = line_counted(counts, line);
     }
     counts
+}
+
+// With the answers of one client.
+fn answers_counted(counts: Counts, answers: &[Answer]) -> Counts
+    requires few { length answers.now ≤ MOST_LINES }
+    requires room { AreUpTo (MOST_LINES - length answers.now) counts }
+    ensures value { result ≡ answers_counted counts answers.now }
+    ensures next { (most : ℕ) → AreUpTo most counts → AreUpTo (most + length answers.now) result }
+{
+    let mut counts = counts;
+    'answers: for answer in answers {
+        counts = one_answer(counts, answer);
+    }
+    counts
+}
+
+// And with those of each.
+fn clients_counted(counts: Counts, answers: &[List<Answer>]) -> Counts
+    requires few { answers_in answers.now ≤ MOST_LINES }
+    requires room { AreUpTo (MOST_LINES - answers_in answers.now) counts }
+    ensures { result ≡ clients_counted counts answers.now }
+{
+    let mut counts = counts;
+    'clients: for mine in answers {
+        counts = answers_counted(counts, mine.as_slice());
+    }
+    counts
+}
+
+/// The counts of the daemon's lines and of the clients' answers.
+pub(crate) fn counts_of(daemon: &[Line], answers: &[List<Answer>]) -> Counts
+    requires { length daemon.now + answers_in answers.now ≤ MOST_LINES }
+    ensures value { result ≡ clients_counted (lines_counted no_counts daemon.now) answers.now }
+{
+    clients_counted(lines_counted(daemon), answers)
 }

@@ -10,9 +10,11 @@ mod counts;
 mod laws;
 mod limits;
 mod line;
+mod lines;
 mod printing;
 
 pub use laws::live_laws;
 pub use limits::MOST_LINES;
 pub use line::Line;
+pub use lines::Lines;
 pub use printing::report;

@@ -1,14 +1,19 @@
 //! The report of a run's lines.
+ghost use Rattle.std.specs.List.{range_with_len};
 ghost use Rattle.std.specs.Prelude.{◌≡◌, ◌≤◌, ◌<◌, ◌+◌, ◌^◌, ◌++◌, ◌∷◌, [], ℕ, if◌then◌else◌, length, vec_items, IfOk, IsOk, OnOk};
+ghost use Rattle.clock_gate.specs.declared.limits.TheConstants.{MOST_CLIENTS};
 ghost use Rattle.vmclock_page.specs.Counting.{page_number_of};
 ghost use Rattle.vmclock_page.specs.Host.{count_of};
 ghost use Rattle.segment_layout.specs.Image.{image_of};
 ghost use Rattle.lawful_report.specs.Lawful.{counts_list, has_stop, text_of_lines};
+ghost use Rattle.live_report.specs.ClientCalls.{answer_lines, client_lines};
+ghost use Rattle.live_report.specs.Counted.{answers_in};
 ghost use Rattle.live_report.specs.declared.limits.TheConstants.{MOST_LINES};
 ghost use Rattle.live_report.specs.LiveReport.{line_printed, lines_printed, move_printed, page_told, poll_printed, position_after_line, position_first, report_of, stop_of, stop_printed};
 
 use crate::counts::counts_of;
 use crate::line::Line;
+use crate::lines::Lines;
 use clock_gate::{List, Memory, Trace};
 use interval_now::Answer;
 use lawful_report::{Counts, Printed, put_line};
@@ -248,6 +253,42 @@ fn put_lines(
     Ok(())
 }
 
+// Appends the lines of a client's answers.
+fn put_answers(
+    text: &mut Vec<u8>,
+    trace: &Trace,
+    client: u32,
+    answers: &[Answer],
+) -> Result<(), AllocError>
+    requires few { length answers.now ≤ MOST_LINES }
+    ensures { (position : ℕ) → OnOk result (vec_items text.new ≡ vec_items text.old ++ text_of_lines (lines_printed trace.now position (answer_lines client 1 answers.now))) }
+{
+    let mut call = 1;
+    'answers: for answer in answers {
+        put_answered(text, trace, client, call, answer)?;
+        call += 1;
+    }
+    Ok(())
+}
+
+// Appends the lines of all clients.
+fn put_clients(
+    text: &mut Vec<u8>,
+    trace: &Trace,
+    answers: &[List<Answer>],
+) -> Result<(), AllocError>
+    requires clients { length answers.now ≤ MOST_CLIENTS }
+    requires few { answers_in answers.now ≤ MOST_LINES }
+    ensures { (position : ℕ) → OnOk result (vec_items text.new ≡ vec_items text.old ++ text_of_lines (lines_printed trace.now position (client_lines (range_with_len 1 (length answers.now)) answers.now))) }
+{
+    let mut client = 1;
+    'clients: for mine in answers {
+        put_answers(text, trace, client, mine.as_slice())?;
+        client += 1;
+    }
+    Ok(())
+}
+
 // The position of the image.
 fn position_first(trace: &Trace) -> u64
     requires { IsOk (image_of trace.now.layout trace.now.image) }
@@ -276,15 +317,24 @@ fn total(counts: &Counts) -> Printed
     }
 }
 
-fn text_of(alloc: Global, trace: &Trace, lines: &[Line]) -> Result<Vec<u8>, AllocError>
+fn text_of(
+    alloc: Global,
+    trace: &Trace,
+    daemon: &[Line],
+    answers: &[List<Answer>],
+) -> Result<Vec<u8>, AllocError>
     requires image { IsOk (image_of trace.now.layout trace.now.image) }
-    requires few { length lines.now ≤ MOST_LINES }
-    ensures report { IfOk result (λ text. vec_items text ≡ report_of trace.now lines.now) }
+    requires clients { length answers.now ≤ MOST_CLIENTS }
+    requires few { length daemon.now + answers_in answers.now ≤ MOST_LINES }
+    ensures report { IfOk result (λ text. vec_items text ≡ report_of trace.now (daemon.now ++ client_lines (range_with_len 1 (length answers.now)) answers.now)) }
 {
-    let mut text = Vec::with_capacity(alloc, LINE_ROOM * (lines.len() + 2))?;
+    let counts = counts_of(daemon, answers);
+    let lines = daemon.len() + counts.answers as usize;
+    let mut text = Vec::with_capacity(alloc, LINE_ROOM * (lines + 2))?;
     put_line(&mut text, &Printed::Header)?;
-    put_lines(&mut text, trace, position_first(trace), lines)?;
-    put_line(&mut text, &total(&counts_of(lines)))?;
+    put_lines(&mut text, trace, position_first(trace), daemon)?;
+    put_clients(&mut text, trace, answers)?;
+    put_line(&mut text, &total(&counts))?;
     Ok(text)
 }
 
@@ -292,12 +342,13 @@ fn text_of(alloc: Global, trace: &Trace, lines: &[Line]) -> Result<Vec<u8>, Allo
 ///
 /// The image is one that a daemon of the trace's layout can go on with, and the lines are at most `MOST_LINES`: those of a run are
 /// fewer (`live_laws`).
-pub fn report(alloc: Global, trace: &Trace, lines: &[Line]) -> Result<List<u8>, Memory>
+pub fn report(alloc: Global, trace: &Trace, lines: &Lines) -> Result<List<u8>, Memory>
     requires image { IsOk (image_of trace.now.layout trace.now.image) }
     requires few { length lines.now ≤ MOST_LINES }
     ensures report { IfOk result (λ text. text ≡ report_of trace.now lines.now) }
 {
-    match text_of(alloc, trace, lines) {
+    let (daemon, answers) = lines.parts();
+    match text_of(alloc, trace, daemon, answers) {
         Ok(text) => Ok(List::from_vec(text)),
         Err(_) => Err(Memory),
     }

@@ -1,10 +1,11 @@
-use Rattle.std.proofs.Common.{◌≡◌, ◌+◌, [], drop, arith, ap, sym, ◌∙◌}
+use Rattle.std.proofs.Common.{rules, ◌≤◌, length, ◌≡◌, ◌+◌, [], drop, arith, ap, sym, ◌∙◌}
 use Rattle.std.proofs.lemmas.List.{drop_all}
 use Rattle.lawful_report.specs.declared.counts.Counts.{Counts}
 use Rattle.live_report.specs.declared.line.Line.{Line}
 use Rattle.live_report.specs.LiveReport.{line_counted, lines_counted}
+use Rattle.live_report.proofs.Parts.{up_to_more}
 use Rattle.live_report.proofs.ReportLines.{counted_more}
-use Rattle.live_report.proofs.counts.counts_of.Goals as goal
+use Rattle.live_report.proofs.counts.lines_counted.Goals as goal
 
 pub counting-preserved : goal.counting-preserved
 counting-preserved c =
@@ -18,7 +19,13 @@ counting-preserved c =
       c.line_counted-counts.ensures.next i c.counting.invariant.1,
     )
 
-pub returns : goal.returns
-returns c =
+pub returns-clause-value : goal.returns-clause-value
+returns-clause-value c =
     let over : drop c.counting.line-index c.args.lines.now ≡ [] = drop_all c.counting.line-index c.args.lines.now (omega (arith, c.counting-test.false)) in
     rw over at c.counting.invariant.0
+
+pub returns-clause-most : goal.returns-clause-most
+returns-clause-most c =
+    let i = c.counting.line-index in
+    let within : i ≤ length c.args.lines.now = search rules in
+    up_to_more i (length c.args.lines.now) c.counting.counts within c.counting.invariant.1
