@@ -1,4 +1,4 @@
-// All workers side by side.
+//! All workers side by side.
 ghost use Rattle.std.specs.Prelude.{◌≡◌, ◌<◌, length, All, vec_len};
 ghost use denote.Param.Send.{IsSync};
 ghost use Rattle.live_run.specs.Host.{HostBegins, HostEnds};

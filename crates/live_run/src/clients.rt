@@ -1,4 +1,4 @@
-// Clients that take turns on one worker.
+//! Clients that take turns on one worker.
 ghost use Rattle.std.specs.Prelude.{◌≡◌, ℕ, ◌≤◌, ◌<◌, true, false, All, length, vec_len, slice_index_or};
 ghost use Rattle.clock_gate.specs.declared.clock_row.ClockRow.{ClockRow};
 ghost use Rattle.clock_gate.specs.ClockRow.{IsClock};

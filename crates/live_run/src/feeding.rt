@@ -1,4 +1,4 @@
-// The publisher's loop, with the poller in a thread of its own or at hand.
+//! The publisher's loop, with the poller in a thread of its own or at hand.
 ghost use Rattle.std.specs.Prelude.{◌≡◌, ◌≤◌, ◌<◌, length};
 ghost use denote.Param.Send.{IsSync};
 ghost use Rattle.clock_gate.specs.declared.limits.TheConstants.{MOST_POLLS};

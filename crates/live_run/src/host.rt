@@ -1,4 +1,4 @@
-// The host's worker: all rows after the first, in their order.
+//! The host's worker: all rows after the first, in their order.
 ghost use Rattle.std.specs.Prelude.{◌≡◌, ◌≤◌};
 ghost use Rattle.clock_gate.specs.declared.limits.TheConstants.{MOST_HOST_ROWS};
 ghost use Rattle.vmclock_page.specs.Rows.{IsRowOf};

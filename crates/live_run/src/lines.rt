@@ -1,4 +1,4 @@
-// The lines of a run, one after another.
+//! The lines of a run, one after another.
 ghost use Rattle.std.specs.Prelude.{◌≡◌, ◌+◌, ◌<◌, [], ◌∷◌, ◌++◌, vec_len, vec_capacity};
 ghost use Rattle.live_report.specs.declared.line.Line.TheVariants as told;
 
@@ -25,17 +25,6 @@ pub(crate) fn polled_line(poll: u32, polled: &Polled) -> Line
     Line::Polled {
         poll,
         polled: *polled,
-    }
-}
-
-/// The line of this call.
-pub(crate) fn answered_line(client: u32, call: u32, answer: &Answer) -> Line
-    ensures { result ≡ told.Answered client call answer.now }
-{
-    Line::Answered {
-        client,
-        call,
-        answer: *answer,
     }
 }
 

@@ -1,4 +1,4 @@
-// How a worker waits for another one.
+//! How a worker waits for another one.
 use std::{hint, thread};
 
 // Looks before the processor is given away once, which is a call of the system.

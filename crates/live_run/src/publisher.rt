@@ -1,4 +1,4 @@
-// The daemon between two polls, on its seat.
+//! The daemon between two polls, on its seat.
 ghost use Rattle.std.specs.Prelude.{◌≡◌, ◌+◌, ◌*◌, ◌≤◌, ◌<◌, length, vec_len, vec_capacity, Some, None, IfSome, true, is_some};
 ghost use Rattle.clock_gate.specs.declared.limits.TheConstants.{MOST_STORES};
 ghost use Rattle.clock_gate.specs.Trace.{IsLawfulTrace};

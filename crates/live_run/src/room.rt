@@ -1,4 +1,4 @@
-// All memory of a run.
+//! All memory of a run.
 ghost use Rattle.std.specs.Prelude.{◌≤◌, IfOk};
 ghost use Rattle.clock_gate.specs.declared.limits.TheConstants.{MOST_CLIENTS};
 ghost use Rattle.clock_gate.specs.Trace.{IsLawfulTrace};
@@ -6,8 +6,9 @@ ghost use Rattle.live_run.specs.Room.{IsRoomFor};
 
 use crate::clients::ClientWorker;
 use crate::workers::{Plan, idle_workers, plans};
-use clock_gate::{Memory, Trace};
+use clock_gate::{List, Memory, Trace};
 use feed_queue::{FeedIn, FeedOut, FeedQueue};
+use interval_now::Answer;
 use live_report::Line;
 use segment_rule::ClientSeat;
 use std::alloc::Global;
@@ -18,6 +19,7 @@ pub(crate) struct Room {
     pub plans: Vec<Plan>,
     pub workers: Vec<ClientWorker>,
     pub lines: Vec<Line>,
+    pub answers: Vec<List<Answer>>,
     pub seats: Vec<ClientSeat>,
     pub queue: FeedQueue,
     pub input: FeedIn,
@@ -35,7 +37,9 @@ pub(crate) fn room_for(alloc: Global, trace: &Trace, workers: u32) -> Result<Roo
     let plans = plans(alloc, trace.calls.as_slice(), trace.clients)?;
     let workers = idle_workers(alloc, workers.min(trace.clients), clients)?;
     let mut lines = Vec::new(alloc);
-    lines.reserve(2 * trace.polls.len() + trace.calls.len())?;
+    lines.reserve(2 * trace.polls.len())?;
+    let mut answers = Vec::new(alloc);
+    answers.reserve(clients)?;
     let mut seats = Vec::new(alloc);
     seats.reserve(clients)?;
     let (queue, input, output) = FeedQueue::new(alloc, &trace.polls)?;
@@ -43,6 +47,7 @@ pub(crate) fn room_for(alloc: Global, trace: &Trace, workers: u32) -> Result<Roo
         plans,
         workers,
         lines,
+        answers,
         seats,
         queue,
         input,

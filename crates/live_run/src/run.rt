@@ -1,9 +1,10 @@
-ghost use Rattle.std.specs.Prelude.{◌≡◌, ◌≤◌, ◌<◌, true, false, length, map, All, IfOk};
+ghost use Rattle.std.specs.List.{range_with_len};
+ghost use Rattle.std.specs.Prelude.{◌≡◌, ◌≤◌, ◌<◌, ◌++◌, true, false, length, map, All, IfOk};
 ghost use Rattle.clock_gate.specs.declared.limits.TheConstants.{MOST_CLIENTS};
 ghost use Rattle.generation_word.specs.Layout.{period_of};
 ghost use Rattle.abstract_run.specs.Given.{IsGiven};
 ghost use Rattle.lawful_report.specs.Lawful.{IsLawfulReport};
-ghost use Rattle.live_report.specs.ClientCalls.{client_first};
+ghost use Rattle.live_report.specs.ClientCalls.{client_first, client_lines};
 ghost use Rattle.live_report.specs.DaemonCalls.{daemon_first};
 ghost use Rattle.live_report.specs.LiveReport.{report_of};
 ghost use Rattle.live_report.specs.LiveRun.{setup_of, host_first, IsRunOf};
@@ -15,7 +16,7 @@ use crate::publisher::Publisher;
 use crate::room::{Room, room_for};
 use crate::workers::dealt;
 use clock_gate::{Gate, List, Memory, Trace};
-use live_report::{Line, live_laws};
+use live_report::{Lines, live_laws};
 use segment_rule::{ClientSeat, DaemonSeat, HostSeat, HostTable};
 use std::alloc::Global;
 use std::sync::Wait;
@@ -24,7 +25,7 @@ use std::thread::Threads;
 /// What a run gave: its lines, and the seats that made it. The clients' stand in the order of their numbers.
 #[derive(Drop)]
 pub struct Ran {
-    pub lines: List<Line>,
+    pub lines: Lines,
     pub host: HostSeat,
     pub daemon: DaemonSeat,
     pub clients: List<ClientSeat>,
@@ -50,12 +51,14 @@ fn run_in<R: Threads + Wait + Sync, G: Gate + Sync>(
     requires room { IsRoomFor trace.now room }
     ensures tables { (result.host.table ≡ table.now.id) × (result.daemon.table ≡ table.now.id) }
     ensures clients { All (λ c. c.table ≡ table.now.id) result.clients.items }
-    ensures run { IsRunOf trace.now result.lines.items result.host.view result.daemon.view (map (λ c. c.view) result.clients.items) }
+    ensures few { length result.answers.items ≤ MOST_CLIENTS }
+    ensures run { IsRunOf trace.now (result.lines.items ++ client_lines (range_with_len 1 (length result.answers.items)) result.answers.items) result.host.view result.daemon.view (map (λ c. c.view) result.clients.items) }
 {
     let Room {
         plans,
         workers,
         lines,
+        answers,
         seats,
         queue,
         input,
@@ -77,6 +80,7 @@ fn run_in<R: Threads + Wait + Sync, G: Gate + Sync>(
         host,
         daemon: seat,
         lines,
+        answers,
         clients: seats,
     };
     gather(table, trace, workers, gathered)
@@ -124,10 +128,11 @@ pub fn run_workers<R: Threads + Wait + Sync, G: Gate + Sync>(
         host,
         daemon,
         lines,
+        answers,
         clients,
     } = run_in(rt, trace, table, host, daemon, client, room, gate);
     Ok(Ran {
-        lines: List::from_vec(lines),
+        lines: Lines::new(List::from_vec(lines), List::from_vec(answers)),
         host,
         daemon,
         clients: List::from_vec(clients),

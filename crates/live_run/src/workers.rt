@@ -1,4 +1,4 @@
-// Clients are dealt out to workers, and gathered again.
+//! Clients are dealt out to workers, and gathered again.
 ghost use Rattle.std.specs.Prelude.{◌≡◌, ℕ, ◌+◌, ◌*◌, ◌≤◌, ◌<◌, [], ◌∷◌, List, true, false, All, length, vec_len, vec_capacity, Some, IfOk, sum_by};
 ghost use Rattle.clock_gate.specs.declared.limits.TheConstants.{MOST_CALLS, MOST_CLIENTS};
 ghost use Rattle.clock_gate.specs.declared.clock_row.ClockRow.{ClockRow};

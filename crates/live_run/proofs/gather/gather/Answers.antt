@@ -1,10 +1,11 @@
 use Rattle.std.proofs.Common.{rules, ◌≡◌, ◌+◌, ◌<◌, ◌≤◌, vec_len, vec_capacity, refl, sym, ap, ◌∙◌, subst, arith}
 use Rattle.std.proofs.lemmas.Option.{same_Some}
-use Rattle.clock_gate.specs.declared.limits.TheConstants.{MOST_CALLS}
+use Rattle.clock_gate.specs.declared.limits.TheConstants.{MOST_CLIENTS}
 use Rattle.live_run.specs.declared.clients.Client.{Client}
 use Rattle.live_run.specs.declared.gather.Gathered.{Gathered}
 use Rattle.live_run.specs.Gathered.{WasGathered}
-use Rattle.live_run.proofs.Gathering.{HasGathered, gathered_none, next_left, next_stacked, next_done, next_room, next_few, gathered_more, gathered_all}
+use Rattle.live_report.proofs.Clients.{clients_within}
+use Rattle.live_run.proofs.Gathering.{HasGathered, gathered_none, next_left, next_stacked, next_done, next_answers, gathered_more, answers_many, gathered_all}
 use Rattle.live_run.proofs.gather.gather.Goals as goal
 use Rattle.live_run.proofs.gather.gather.Goals.{in-Some, in_default}
 
@@ -28,24 +29,12 @@ add-requires-clause-hand c =
     let same : c.in-Some.client ≡ n.0 = same_Some c.in-Some.client n.0 (c.in-Some.ensures.stacked n.0 n.1.later (next_stacked c.args.table.now c.args.trace.now c.clients.place c.clients.workers.items c.clients.gathered n.0 n.1)).0 in
     ap (λ (x : Client). x.seat.in_hand) same ∙ (next_done c.args.table.now c.args.trace.now c.clients.place c.clients.workers.items c.clients.gathered n.0 n.1).hand
 
-pub add-requires-clause-room : goal.add-requires-clause-room
-add-requires-clause-room c =
+pub add-requires-clause-answers : goal.add-requires-clause-answers
+add-requires-clause-answers c =
     let h = c.clients.invariant.1 in
     let here : c.clients.place < c.args.trace.now.clients = search rules in
     let n = next_left c.args.table.now c.args.trace.now c.clients.place c.clients.workers.items c.clients.gathered here h in
-    let same : c.in-Some.client ≡ n.0 = same_Some c.in-Some.client n.0 (c.in-Some.ensures.stacked n.0 n.1.later (next_stacked c.args.table.now c.args.trace.now c.clients.place c.clients.workers.items c.clients.gathered n.0 n.1)).0 in
-    subst (λ (x : Client). vec_len c.clients.gathered.lines + vec_len x.answers ≤ vec_capacity c.clients.gathered.lines) (sym same)
-    (next_room c.args.table.now c.args.trace.now c.clients.place c.clients.workers.items c.clients.gathered n.0 n.1)
-
-pub add-requires-clause-few : goal.add-requires-clause-few
-add-requires-clause-few c =
-    let h = c.clients.invariant.1 in
-    let here : c.clients.place < c.args.trace.now.clients = search rules in
-    let n = next_left c.args.table.now c.args.trace.now c.clients.place c.clients.workers.items c.clients.gathered here h in
-    let same : c.in-Some.client ≡ n.0 = same_Some c.in-Some.client n.0 (c.in-Some.ensures.stacked n.0 n.1.later (next_stacked c.args.table.now c.args.trace.now c.clients.place c.clients.workers.items c.clients.gathered n.0 n.1)).0 in
-    let few = next_few c.args.table.now c.args.trace.now c.clients.place c.clients.workers.items c.clients.gathered n.0 n.1 in
-    let most = c.requires.gathering.lawful.calls_few in
-    subst (λ (x : Client). vec_len x.answers ≤ MOST_CALLS) (sym same) (omega (arith, few, most))
+    next_answers c.args.table.now c.args.trace.now c.clients.place c.clients.workers.items c.clients.gathered n.0 n.1
 
 pub clients-preserved : goal.clients-preserved
 clients-preserved c =
@@ -74,3 +63,10 @@ returns-clause-run c =
 
 pub returns-clause-clients : goal.returns-clause-clients
 returns-clause-clients c = c.clients.invariant.1.tables
+
+pub returns-clause-few : goal.returns-clause-few
+returns-clause-few c =
+    let all : c.args.trace.now.clients ≤ c.clients.place = search rules in
+    let many = answers_many c.args.table.now c.args.trace.now c.clients.place c.clients.workers.items c.clients.gathered all c.clients.invariant.1 in
+    let within = clients_within c.args.trace.now c.requires.gathering.lawful in
+    omega (arith, many, within.1)

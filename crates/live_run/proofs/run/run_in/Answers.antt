@@ -27,7 +27,8 @@ gather-requires-clause-gathering g c =
       calls = published.publishes.calls;
       polled = published.all;
       none = c.requires.room.no_seats;
-      room = search rules;
+      no_answers = c.requires.room.no_answers;
+      answer_places = c.requires.room.answers;
       places = search rules;
     }
 
