@@ -1,4 +1,5 @@
--- A lawful report: one that running threads can give for a trace. First all lines of the daemon, then those of the clients.
+-- A lawful report: each line may stand after those before it. First all lines of the daemon, then those of the clients. Every report of
+-- a run by threads is lawful where the trace has fewer polls than the layout's period; threads don't have to be able to give each of them.
 use Rattle.std.specs.Prelude.{◌≡◌, ◌≢◌, ℕ, ◌+◌, ◌/◌, ◌≤◌, Bool, false, nat_lt, ◌==◌, if◌then◌else◌, List, [], ◌∷◌, ◌++◌, length, slice_get, Option, Some, None}
 use Rattle.std.specs.List.{flat_map}
 use Rattle.clock_gate.specs.declared.clock_status.ClockStatus.{ClockStatus}

@@ -2,8 +2,9 @@
 //!
 //! A `Printed` is a line. `print_line` gives its bytes, `put_line` appends them to a text, and `after_line` tells whether a text
 //! begins with them, all by the definitions of `specs/Lines.antt`, so that whoever writes or checks a report has the same lines.
-//! A report of threads can't be foretold: it is lawful where some run of the words could have given it, that is where each line
-//! may stand after those before it (`specs/Lawful.antt`). `report_laws` says what that gives to those who make reports. Stands on
+//! A report of threads can't be foretold: it is lawful where each line may stand after those before it (`specs/Lawful.antt`). Where
+//! the trace has fewer polls than the layout's period, every report of a run by threads is lawful (`live_report` proves it); a lawful
+//! report doesn't have to be one that threads can give. `report_laws` says what lawful reports are to those who make them. Stands on
 //! `vmclock_page`, `segment_layout`, `status_machine` and `interval_now`, whose values the lines tell, and on `backward_line`.
 #![tactic(auto)]
 
