@@ -12,7 +12,7 @@ use crate::report::premises_of;
 use abstract_run::{Event, given};
 use clock_gate::{Memory, Trace};
 use csv_records::TraceError;
-use order_text::{answers_told, put_order};
+use order_text::put_order;
 use ordered_runs::ordered_laws;
 use std::alloc::{AllocError, Global};
 use step_core::{World, words_show};
@@ -37,10 +37,9 @@ fn ordering(
 {
     given(trace);
     ordered_laws();
-    let told = answers_told(alloc, trace.clock.as_slice(), events)?;
     let premises = premises_of(alloc, trace, events)?;
-    let mut text = Vec::with_capacity(alloc, ANSWER_ROOM * (told.len() + 2))?;
-    put_order(alloc, &mut text, told.as_slice(), lease)?;
+    let mut text = Vec::with_capacity(alloc, ANSWER_ROOM * (events.len() + 2))?;
+    put_order(alloc, &mut text, trace.clock.as_slice(), events, lease)?;
     put_premises(&mut text, &premises)?;
     Ok(text)
 }

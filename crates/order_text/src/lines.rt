@@ -1,6 +1,6 @@
 //! The lines of the answers, each appended to a text.
 ghost use Rattle.std.specs.Prelude.{◌≡◌, ◌++◌, ◌≤◌, [], length, vec_items, OnOk};
-ghost use Rattle.order_text.specs.Lines.{header_line, lease_line, long_line, short_line, step_lines, steps_text, wait_line};
+ghost use Rattle.order_text.specs.Lines.{header_line, lease_line, long_line, short_line, step_lines, wait_line};
 
 use backward_line::BackwardLine;
 use bound_order::{Lease, Step, Told, Waiting};
@@ -83,21 +83,11 @@ fn put_lease(text: &mut Vec<u8>, answer: &Told, lease: &Lease) -> Result<(), All
     }
 }
 
+/// Appends the lines of an answer, which has this step.
 #[tactic(auto, unfolding(crate::specs::Lines::step_lines))]
-fn put_step(text: &mut Vec<u8>, answer: &Told, step: &Step) -> Result<(), AllocError>
+pub(crate) fn put_step(text: &mut Vec<u8>, answer: &Told, step: &Step) -> Result<(), AllocError>
     ensures { OnOk result (vec_items text.new ≡ vec_items text.old ++ step_lines answer.now step.now) }
 {
     put_wait(text, answer, &step.wait)?;
     put_lease(text, answer, &step.lease)
-}
-
-/// Appends the lines of these answers, which have these steps.
-pub fn put_steps(text: &mut Vec<u8>, told: &[Told], steps: &[Step]) -> Result<(), AllocError>
-    requires { length told.now ≡ length steps.now }
-    ensures { OnOk result (vec_items text.new ≡ vec_items text.old ++ steps_text told.now steps.now) }
-{
-    'answers: for place in 0..told.len() {
-        put_step(text, &told[place], &steps[place])?;
-    }
-    Ok(())
 }

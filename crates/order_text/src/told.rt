@@ -1,13 +1,12 @@
-//! The answers of a run.
-ghost use Rattle.std.specs.Prelude.{◌≡◌, ◌++◌, option_to_list, IfOk, OnOk};
+//! The answers that the events of a run tell.
+ghost use Rattle.std.specs.Prelude.{◌≡◌};
 ghost use Rattle.clock_gate.specs.ClockRow.{row_at};
-ghost use Rattle.order_text.specs.Told.{answer_told, answers_told, event_told, untimed};
+ghost use Rattle.order_text.specs.Told.{answer_told, event_told, untimed};
 
 use abstract_run::Event;
 use bound_order::Told;
 use clock_gate::ClockRow;
 use interval_now::Answer;
-use std::alloc::{AllocError, Global};
 
 // The true time that the clock row with this number tells.
 fn truth_at(clock: &[ClockRow], row: u32) -> Option<u64>
@@ -47,7 +46,9 @@ fn answer_told(clock: &[ClockRow], client: u32, call: u32, answer: &Answer) -> T
     }
 }
 
-fn event_told(clock: &[ClockRow], event: &Event) -> Option<Told>
+/// The answer that an event tells, with its interval, where it has one, and the true time that its clock row tells. `clock` has the rows
+/// of the clock.
+pub(crate) fn event_told(clock: &[ClockRow], event: &Event) -> Option<Told>
     ensures { result ≡ event_told clock.now event.now }
 {
     match event {
@@ -63,30 +64,4 @@ fn event_told(clock: &[ClockRow], event: &Event) -> Option<Told>
         Event::Skipped { .. } => None,
         Event::Stopped { .. } => None,
     }
-}
-
-// One answer more, where the event tells one.
-fn push_told(told: &mut Vec<Told>, clock: &[ClockRow], event: &Event) -> Result<(), AllocError>
-    ensures { OnOk result (told.new.items ≡ told.old.items ++ option_to_list (event_told clock.now event.now)) }
-{
-    match event_told(clock, event) {
-        None => Ok(()),
-        Some(answer) => Ok(told.push(answer)?),
-    }
-}
-
-/// The answers among these events, in the order of the events, each with its interval, where it has one, and the true time that its
-/// clock row tells. `clock` has the rows of the clock.
-pub fn answers_told(
-    alloc: Global,
-    clock: &[ClockRow],
-    events: &[Event],
-) -> Result<Vec<Told>, AllocError>
-    ensures { IfOk result (λ told. told.items ≡ answers_told clock.now events.now) }
-{
-    let mut told = Vec::with_capacity(alloc, events.len())?;
-    'events: for event in events {
-        push_told(&mut told, clock, event)?;
-    }
-    Ok(told)
 }

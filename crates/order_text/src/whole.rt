@@ -2,31 +2,38 @@ ghost use Rattle.std.specs.Prelude.{◌≡◌, ◌≤◌, ◌++◌, vec_items, A
 ghost use Rattle.bound_order.specs.Ordering.{IsTold, order_of};
 ghost use Rattle.bound_order.specs.declared.lease.TheConstants.{LONGEST_LEASE};
 ghost use Rattle.order_text.specs.Lines.{order_text};
+ghost use Rattle.order_text.specs.Told.{answers_told};
 
-use crate::counts::put_total;
-use crate::lines::{put_header, put_steps};
-use bound_order::{Told, order};
-use clock_gate::Memory;
+use crate::counts::{NONE, put_total};
+use crate::lines::{put_header, put_step};
+use crate::told::event_told;
+use abstract_run::Event;
+use bound_order::Ordering;
+use clock_gate::ClockRow;
 use std::alloc::{AllocError, Global};
 
-/// Appends the header, a line or two for each of these answers in their order, and the counts. `length` is that of a lease, in
-/// nanoseconds.
-#[tactic(auto, using(crate::proofs::Texts::as_many), unfolding(crate::specs::Lines::order_text))]
+/// Appends the header, a line or two for each answer among these events, in the order of the events, and the counts. `clock` has the rows
+/// of the clock, and `length` is that of a lease, in nanoseconds.
 pub fn put_order(
     alloc: Global,
     text: &mut Vec<u8>,
-    told: &[Told],
+    clock: &[ClockRow],
+    events: &[Event],
     length: u64,
 ) -> Result<(), AllocError>
-    requires told { All IsTold told.now }
+    requires told { All IsTold (answers_told clock.now events.now) }
     requires length { length ≤ LONGEST_LEASE }
-    ensures { OnOk result (vec_items text.new ≡ vec_items text.old ++ order_text told.now (order_of length told.now)) }
+    ensures { OnOk result (vec_items text.new ≡ vec_items text.old ++ order_text (answers_told clock.now events.now) (order_of length (answers_told clock.now events.now))) }
 {
-    let steps = match order(alloc, told, length) {
-        Ok(steps) => steps,
-        Err(Memory) => return Err(AllocError),
-    };
+    let mut ordering = Ordering::new(alloc, length)?;
+    let mut counts = NONE;
     put_header(text)?;
-    put_steps(text, told, steps.as_slice())?;
-    put_total(text, steps.as_slice())
+    'events: for event in events {
+        if let Some(answer) = event_told(clock, event) {
+            let step = ordering.next(&answer);
+            put_step(text, &answer, &step)?;
+            counts.count(&step);
+        }
+    }
+    put_total(text, &counts)
 }
