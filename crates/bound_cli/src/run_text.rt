@@ -40,7 +40,7 @@ fn run_and_report<R: Threads + Wait + Sync, G: Gate + Sync>(
 {
     live_laws();
     let (table, ran) = run_trace(rt, alloc, trace, workers, gate)?;
-    let text = report(alloc, trace, ran.lines.as_slice())?;
+    let text = report(alloc, trace, &ran.lines)?;
     Ok(Made { table, ran, text })
 }
 

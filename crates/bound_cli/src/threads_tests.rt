@@ -26,7 +26,7 @@ const WORDS: [&[&str]; 3] = [
 pub(crate) struct Told {
     pub status: Status,
     pub written: Vec<u8>,
-    pub lines: Option<List<Line>>,
+    pub lines: Option<Lines>,
 }
 
 // What these words come to between this source and this sink.
@@ -57,7 +57,7 @@ pub(crate) fn threaded<R: Threads + Wait + Sync, G: Gate + Sync>(
 }
 
 // The report of the lines of a run of this trace.
-fn printed(alloc: Global, text: &[u8], lines: &[Line]) -> Option<List<u8>> {
+fn printed(alloc: Global, text: &[u8], lines: &Lines) -> Option<List<u8>> {
     read_runs_laws();
     if lines.len() > MOST_LINES {
         return None;
@@ -89,43 +89,41 @@ fn report_of_run<R: Abort + Threads + Wait + Sync, G: Gate + Sync>(
     let told = threaded(rt, alloc, given, outside, gate)?;
     assert_eq!(rt; told.status, Status::Ok);
     let lines = told.lines.ok_or("a run")?;
-    let report = printed(alloc, text, lines.as_slice()).ok_or("a report")?;
+    let report = printed(alloc, text, &lines).ok_or("a report")?;
     assert_eq!(rt; told.written.as_slice(), report.as_slice());
     let verdict = verdict(alloc, text, report.as_slice())?;
     assert_eq!(rt; verdict.as_slice(), b"lawful\n".as_slice());
     Ok(told.written)
 }
 
-#[test]
-fn polls_alone_have_one_report(rt: HostRuntime) -> Result<(), Fail> {
-    let alloc = rt.alloc();
-    for (name, lines, told) in [
-        (
-            "a stop before the first store",
-            "clock,1000000000,1700000000000000000\npoll,A\npoll,A,0\npoll,A\n",
-            "open,1,fresh,0
+// Traces of polls without calls, and the only report of each after its first line.
+const POLLS_ALONE: [(&str, &str, &str); 4] = [
+    (
+        "a stop before the first store",
+        "clock,1000000000,1700000000000000000\npoll,A\npoll,A,0\npoll,A\n",
+        "open,1,fresh,0
 pub,1,1,2,1,0,1,synchronized,1000000000,244142,0,1
 stop,2,0
 open,3,kept,2
 pub,2,3,4,1,0,1,synchronized,1000000000,244142,0,3
 total,2,0,0,0,0,0,0
 ",
-        ),
-        (
-            "a stop within an update",
-            "clock,1000000000,1700000000000000000\npoll,A\npoll,A,5\npoll,A\n",
-            "open,1,fresh,0
+    ),
+    (
+        "a stop within an update",
+        "clock,1000000000,1700000000000000000\npoll,A\npoll,A,5\npoll,A\n",
+        "open,1,fresh,0
 pub,1,1,2,1,0,1,synchronized,1000000000,244142,0,1
 stop,2,5
 open,3,torn,3
 pub,2,3,4,1,0,1,synchronized,1000000000,244142,0,3
 total,2,0,0,0,0,0,0
 ",
-        ),
-        (
-            "a stop after the last store",
-            "clock,1000000000,1700000000000000000\npoll,A\npoll,A,10\npoll,A\n",
-            "open,1,fresh,0
+    ),
+    (
+        "a stop after the last store",
+        "clock,1000000000,1700000000000000000\npoll,A\npoll,A,10\npoll,A\n",
+        "open,1,fresh,0
 pub,1,1,2,1,0,1,synchronized,1000000000,244142,0,1
 pub,2,2,4,1,0,1,synchronized,1000000000,244142,0,2
 stop,2,10
@@ -133,17 +131,22 @@ open,3,kept,4
 pub,3,3,6,1,0,1,synchronized,1000000000,244142,0,3
 total,3,0,0,0,0,0,0
 ",
-        ),
-        (
-            "an old image that is moved",
-            "set,layout,3\nimage,I\nclock,2000000000,1700000001000000000\npoll,A\n",
-            "open,1,kept,65534
+    ),
+    (
+        "an old image that is moved",
+        "set,layout,3\nimage,I\nclock,2000000000,1700000001000000000\npoll,A\n",
+        "open,1,kept,65534
 moved,1,32768,65536
 pub,32769,1,65538,1,0,1,synchronized,2000000000,244142,0,1
 total,1,0,0,0,0,0,0
 ",
-        ),
-    ] {
+    ),
+];
+
+#[test]
+fn polls_alone_have_one_report(rt: HostRuntime) -> Result<(), Fail> {
+    let alloc = rt.alloc();
+    for (name, lines, told) in POLLS_ALONE {
         let text = trace_of(alloc, lines)?;
         let report = format!(in alloc; "clockbound-report,1\n{told}")?;
         for given in WORDS {
@@ -303,7 +306,7 @@ fn each_failing_write_leaves_a_front_of_the_report_of_its_own_run(
         let outside = outside(alloc, text, 7, &[], 1_000, &[number])?;
         let told = threaded(&rt, alloc, given, outside, &NoGate)?;
         let lines = told.lines.ok_or("a run")?;
-        let whole = printed(alloc, text, lines.as_slice()).ok_or("a report")?;
+        let whole = printed(alloc, text, &lines).ok_or("a report")?;
         if number > whole.len().div_ceil(7) as u64 {
             assert_eq!(rt; told.status, Status::Ok);
             assert_eq!(rt; told.written.as_slice(), whole.as_slice());

@@ -1,9 +1,9 @@
 ghost use Rattle.std.specs.Prelude.{◌≡◌, ◌≤◌};
 
 use crate::gates::{Diary, Hold, Holding, Meeting, zeros};
-use clock_gate::{Gate, List, NoGate};
+use clock_gate::{Gate, NoGate};
 use interval_now::Answer;
-use live_report::Line;
+use live_report::{Line, Lines};
 use live_run::run_trace;
 use read_runs::read_runs_laws;
 use std::alloc::{AllocError, Global};
@@ -14,20 +14,41 @@ use std::thread::Threads;
 use trace_reader::read_trace;
 use writer_reopen::Polled;
 
-// The lines of a run of this trace, where it is one and memory is found.
+// The daemon's lines, and after them a line for each answer.
+fn listed(alloc: Global, lines: &Lines) -> Result<Vec<Line>, AllocError> {
+    let (daemon, answers) = lines.parts();
+    let mut all = Vec::new(alloc);
+    all.extend_from_slice(daemon)?;
+    for (place, mine) in answers.iter().enumerate() {
+        let client = (place as u32).saturating_add(1);
+        for (before, answer) in mine.as_slice().iter().enumerate() {
+            all.push(Line::Answered {
+                client,
+                call: (before as u32).saturating_add(1),
+                answer: *answer,
+            })?;
+        }
+    }
+    Ok(all)
+}
+
+// The lines of a run of this trace, where it is one, memory is found and they are counted right.
 fn lines<R: Threads + Wait + Sync, G: Gate + Sync>(
     rt: &R,
     alloc: Global,
     text: &str,
     workers: u32,
     gate: &G,
-) -> Option<List<Line>>
+) -> Option<Vec<Line>>
     requires { (1 ≤ workers) × (workers ≤ 64) }
 {
     read_runs_laws();
     match read_trace(alloc, text.as_bytes()) {
         Ok(trace) => match run_trace(rt, alloc, &trace, workers, gate) {
-            Ok((_table, ran)) => Some(ran.lines),
+            Ok((_table, ran)) => {
+                let all = listed(alloc, &ran.lines).ok()?;
+                (ran.lines.len() == all.len()).then_some(all)
+            }
             Err(_) => None,
         },
         Err(_) => None,
@@ -193,7 +214,11 @@ fn one_worker_gives_two_clients_their_steps_in_turn(rt: HostRuntime) -> Result<(
         count: AtomicU64::new(0),
         at: zeros(alloc, 64)?,
     };
-    let _lines = lines(&rt, alloc, TWO_CLIENTS, 1, &gate).ok_or("a run")?;
+    let lines = lines(&rt, alloc, TWO_CLIENTS, 1, &gate).ok_or("a run")?;
+    assert_eq!(rt; lines.len(), 2);
+    for (line, at) in lines.as_slice().iter().zip([(1, 1), (2, 1)]) {
+        assert_eq!(rt; place(line), at);
+    }
     let first = gate.passed(2, 2);
     let second = gate.passed(3, 2);
     let ended = gate.passed(2, 3);
