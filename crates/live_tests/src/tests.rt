@@ -19,12 +19,15 @@ fn listed(alloc: Global, lines: &Lines) -> Result<Vec<Line>, AllocError> {
     let (daemon, answers) = lines.parts();
     let mut all = Vec::new(alloc);
     all.extend_from_slice(daemon)?;
-    for (place, mine) in answers.iter().enumerate() {
-        let client = (place as u32).saturating_add(1);
-        for (before, answer) in mine.as_slice().iter().enumerate() {
+    let mut client: u32 = 0;
+    for mine in answers {
+        client = client.saturating_add(1);
+        let mut call: u32 = 0;
+        for answer in mine.as_slice() {
+            call = call.saturating_add(1);
             all.push(Line::Answered {
                 client,
-                call: (before as u32).saturating_add(1),
+                call,
                 answer: *answer,
             })?;
         }
