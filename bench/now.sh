@@ -1,8 +1,8 @@
 #!/usr/bin/env bash
 # now.sh [PROGRAM [PEER]]: what one client call on the shared words takes, in nanoseconds, the least of five runs: alone in processor
-# time, and beside a daemon that publishes in another thread by the clock, with how many calls answered a time; then what its loads alone
-# take, where there is a rustc, and the lines on calls of PEER, a program that measures its own. Without a PROGRAM the built one is
-# measured (crates/now_calls/out/now_calls, which `rt run` makes in crates/now_calls).
+# time, and beside a daemon that publishes in another thread by the clock, with how many calls answered a time and how often the daemon
+# published; then what its loads alone take, where there is a rustc, and the lines on calls of PEER, a program that measures its own.
+# Without a PROGRAM the built one is measured (crates/now_calls/out/now_calls, which `rt run` makes in crates/now_calls).
 set -eu
 top=$(cd "$(dirname "$0")/.." && pwd)
 program=${1:-$top/crates/now_calls/out/now_calls}
@@ -28,7 +28,7 @@ beside() {
         now=$(awk '{ print $5 }' <<< "$line")
         [ "$now" -ge "$least" ] || { least=$now; told=$line; }
     done
-    printf '%-52s %5d ns   %s\n' "$1" "$least" "${told%%,*}"
+    printf '%-52s %5d ns   %s\n' "$1" "$least" "${told%, sum*}"
 }
 
 alone "a call alone" alone

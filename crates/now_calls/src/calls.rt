@@ -21,13 +21,14 @@ const REPLY: [u8; 104] = [
     0, 0, 0, 0, 0, 0, 0, 0, 0, 0, 0, 0xec, 0x80, 0, 0, 0xea, 0x80, 0, 0, 0, 0, 0, 0,
 ];
 
-/// So many calls: how many answered a time, a sum of all that these told, so that each is made whole, and how many nanoseconds they
-/// took, 0 without a clock.
+/// So many calls: how many answered a time, a sum of all that these told, so that each is made whole, how many nanoseconds they took, 0
+/// without a clock, and how often the daemon published meanwhile.
 #[derive(Clone, Copy, Debug, PartialEq, Eq)]
 pub struct Made {
     pub times: u32,
     pub sum: u64,
     pub nanos: u128,
+    pub published: u32,
 }
 
 // The fields of an answer in one number.
@@ -70,7 +71,12 @@ fn measured<R: Clock>(rt: &R, mut client: ClientSeat, table: &HostTable, count: 
         },
         Err(_) => 0,
     };
-    Made { times, sum, nanos }
+    Made {
+        times,
+        sum,
+        nanos,
+        published: 0,
+    }
 }
 
 // Opens, and publishes so often: how often it did.
@@ -105,7 +111,7 @@ pub fn beside<R: Clock + Threads + Sync>(
 ) -> Option<Made> {
     let (table, daemon, client) = seated(alloc, support)?;
     let shared = &table;
-    let (made, _published) = thread::join(
+    let (made, published) = thread::join(
         rt,
         move || -> Made
             requires { (client.table ≡ shared.now.id) × (client.view.setup.rows ≡ 2) × (client.in_hand ≡ false) }
@@ -114,5 +120,5 @@ pub fn beside<R: Clock + Threads + Sync>(
             requires { (daemon.table ≡ shared.now.id) × (daemon.view.setup.rows ≡ 2) × (is_some daemon.view.setup.page ≡ support) }
         { published(daemon, shared, support, count) },
     );
-    Some(made)
+    Some(Made { published, ..made })
 }
