@@ -71,7 +71,10 @@ fn measured<R: Clock + Print + Eprint + Threads + Sync>(
     Ok(ExitCode::SUCCESS)
 }
 
-fn run<R: Clock + Print + Eprint + Env + Threads + Sync>(rt: &R, alloc: Global) -> io::Result<ExitCode> {
+fn run<R: Clock + Print + Eprint + Env + Threads + Sync>(
+    rt: &R,
+    alloc: Global,
+) -> io::Result<ExitCode> {
     let mut buf = [0; 16];
     match rt.arg(1, &mut buf) {
         Ok(len) => measured(rt, alloc, &buf[..len]),

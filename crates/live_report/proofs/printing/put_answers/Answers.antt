@@ -24,12 +24,12 @@ answers-preserved c =
     let at = c.answers.invariant.0 in (
       omega (arith, at),
       λ position.
-        let later = lines_printed trace position (answer_lines client (call + 1) rest) in
-        ap (λ (l : List ℕ). l ++ text_of_lines later) c.in_ok-put_answered.ensures
-        ∙ append_assoc (vec_items c.answers.text) (text_of_lines (line ∷ [])) (text_of_lines later)
-        ∙ ap (λ (l : List ℕ). vec_items c.answers.text ++ l) (sym (text_append (line ∷ []) later))
-        ∙ ap (λ (l : List Answer). vec_items c.answers.text ++ text_of_lines (lines_printed trace position (answer_lines client call l))) (sym here)
-        ∙ c.answers.invariant.1 position,
+          let later = lines_printed trace position (answer_lines client (call + 1) rest) in
+          ap (λ (l : List ℕ). l ++ text_of_lines later) c.in_ok-put_answered.ensures
+          ∙ append_assoc (vec_items c.answers.text) (text_of_lines (line ∷ [])) (text_of_lines later)
+          ∙ ap (λ (l : List ℕ). vec_items c.answers.text ++ l) (sym (text_append (line ∷ []) later))
+          ∙ ap (λ (l : List Answer). vec_items c.answers.text ++ text_of_lines (lines_printed trace position (answer_lines client call l))) (sym here)
+          ∙ c.answers.invariant.1 position,
     )
 
 pub returns : goal.returns

@@ -37,12 +37,12 @@ clients-preserved c =
       client = omega (arith, at);
       few = omega (arith, few, sums);
       told = λ position.
-        let later = text_of_lines (lines_printed trace position (client_lines numbers rest)) in
-        ap (λ (l : List ℕ). l ++ later) (c.in_ok-put_answers.ensures position ∙ ap (λ (l : List Answer). vec_items c.clients.text ++ text_of_lines (lines_printed trace position (answer_lines client 1 l))) c.as_slice.ensures)
-        ∙ append_assoc (vec_items c.clients.text) (text_of_lines (lines_printed trace position (answer_lines client 1 mine))) later
-        ∙ ap (λ (l : List ℕ). vec_items c.clients.text ++ l) (sym (text_of_clients trace position client mine numbers rest))
-        ∙ ap (λ (l : List (List Answer)). vec_items c.clients.text ++ text_of_lines (lines_printed trace position (client_lines (range_with_len client (length l)) l))) (sym here)
-        ∙ c.clients.invariant.told position;
+          let later = text_of_lines (lines_printed trace position (client_lines numbers rest)) in
+          ap (λ (l : List ℕ). l ++ later) (c.in_ok-put_answers.ensures position ∙ ap (λ (l : List Answer). vec_items c.clients.text ++ text_of_lines (lines_printed trace position (answer_lines client 1 l))) c.as_slice.ensures)
+          ∙ append_assoc (vec_items c.clients.text) (text_of_lines (lines_printed trace position (answer_lines client 1 mine))) later
+          ∙ ap (λ (l : List ℕ). vec_items c.clients.text ++ l) (sym (text_of_clients trace position client mine numbers rest))
+          ∙ ap (λ (l : List (List Answer)). vec_items c.clients.text ++ text_of_lines (lines_printed trace position (client_lines (range_with_len client (length l)) l))) (sym here)
+          ∙ c.clients.invariant.told position;
     }
 
 pub returns : goal.returns
