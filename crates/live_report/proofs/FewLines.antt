@@ -6,7 +6,6 @@ use Rattle.clock_gate.specs.declared.clock_row.ClockRow.{ClockRow}
 use Rattle.clock_gate.specs.declared.trace.Trace.{Trace}
 use Rattle.status_machine.specs.declared.daemon.Daemon.{Daemon}
 use Rattle.interval_now.specs.declared.answers.Answer.{Answer}
-use Rattle.abstract_run.specs.Given.{IsGiven}
 use Rattle.segment_views.specs.declared.setup.Setup.{Setup}
 use Rattle.segment_views.specs.Views.{SeatView}
 use Rattle.lawful_report.specs.Composed.{tries_of_client}
@@ -14,7 +13,7 @@ use Rattle.live_report.specs.declared.line.Line.{Line}
 use Rattle.live_report.specs.declared.line.Line.TheVariants as lines
 use Rattle.live_report.specs.DaemonCalls.{DaemonPlace, CallsNext, DaemonCalls, place_first}
 use Rattle.live_report.specs.ClientCalls.{ClientCalls, AllClientCalls, client_start, answer_lines, client_lines}
-use Rattle.live_report.specs.LiveRun.{setup_of, IsRunOf}
+use Rattle.live_report.specs.LiveRun.{setup_of}
 use Rattle.live_report.specs.LiveLaws.{RunsHaveFewLines}
 use Rattle.live_report.proofs.Clients.{clients_within, tries_few}
 

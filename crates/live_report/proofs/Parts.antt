@@ -1,5 +1,5 @@
 -- The report's parts: the daemon's lines, and the answers of each client.
-use Rattle.std.proofs.Common.{◌≡◌, ℕ, suc, ◌+◌, ◌-◌, ◌<◌, ◌≤◌, List, [], ◌∷◌, ◌++◌, drop, get_or, length, length-append, refl, sym, ap, ◌∙◌, append_assoc, arith}
+use Rattle.std.proofs.Common.{◌≡◌, ℕ, suc, ◌+◌, ◌<◌, ◌≤◌, List, [], ◌∷◌, ◌++◌, drop, get_or, length, length-append, refl, sym, ap, ◌∙◌, append_assoc, arith}
 use Rattle.std.specs.List.{range_with_len}
 use Rattle.std.proofs.lemmas.List.{drop_more}
 use Rattle.clock_gate.specs.declared.trace.Trace.{Trace}
@@ -12,7 +12,7 @@ use Rattle.live_report.specs.declared.line.Line.{Line}
 use Rattle.live_report.specs.declared.line.Line.TheVariants as lines
 use Rattle.live_report.specs.ClientCalls.{answer_lines, client_lines}
 use Rattle.live_report.specs.Counted.{AreUpTo, answers_counted, answers_in, clients_counted}
-use Rattle.live_report.specs.LiveReport.{line_printed, lines_printed, line_counted, lines_counted, page_told, position_after_line}
+use Rattle.live_report.specs.LiveReport.{lines_printed, line_counted, lines_counted, page_told}
 use Rattle.live_report.proofs.ReportLines.{text_append}
 use Rattle.live_report.proofs.ReportText.{counted_append, position_after_lines, printed_append}
 

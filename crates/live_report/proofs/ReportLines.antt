@@ -1,13 +1,8 @@
 -- The text of lines, line by line.
-use Rattle.std.proofs.Common.{◌≡◌, ◌+◌, ◌<◌, ◌/◌, ◌++◌, ℕ, List, [], ◌∷◌, drop, get_or, length, refl, sym, ap, append-nil, append_assoc, ◌∙◌}
+use Rattle.std.proofs.Common.{◌≡◌, ◌+◌, ◌<◌, ◌++◌, ℕ, List, [], ◌∷◌, drop, get_or, length, refl, sym, ap, append-nil, append_assoc, ◌∙◌}
 use Rattle.std.specs.Prelude.{Result, Ok, Err, OnOk}
 use Rattle.std.proofs.lemmas.List.{drop_more}
 use Rattle.std.proofs.lemmas.List.Concat.{flat_map-append}
-use Rattle.generation_word.specs.declared.layout.Layout.{Layout}
-use Rattle.segment_layout.specs.declared.start.Start.{Start}
-use Rattle.segment_layout.specs.declared.start.Start.TheVariants.{Fresh, Kept, Torn}
-use Rattle.segment_layout.specs.Image.{generation_of_start}
-use Rattle.segment_run.specs.SegmentRun.{segment_by}
 use Rattle.clock_gate.specs.declared.trace.Trace.{Trace}
 use Rattle.lawful_report.specs.declared.counts.Counts.{Counts}
 use Rattle.lawful_report.specs.declared.printed.Printed.{Printed}
@@ -68,9 +63,3 @@ printed_more trace position lines place d before =
 pub counted_more : (counts : Counts) (lines : List Line) (place : ℕ) (d : Line) → place < length lines
     → lines_counted counts (drop place lines) ≡ lines_counted (line_counted counts (get_or lines place d)) (drop (place + 1) lines)
 counted_more counts lines place d before = ap (λ (rest : List Line). lines_counted counts rest) (drop_more lines place d before)
-
--- the position of a segment is half the generation that its image holds
-pub position_started : (layout : Layout) (image : List ℕ) (sequence : ℕ) (start : Start) → (segment_by layout image sequence start).position ≡ generation_of_start start / 2
-position_started layout image sequence Fresh = refl
-position_started layout image sequence (Kept generation rec) = refl
-position_started layout image sequence (Torn generation) = refl

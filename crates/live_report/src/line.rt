@@ -17,7 +17,8 @@ pub enum Line {
         poll: u32,
         polled: Polled,
     },
-    /// A client's call has its answer. Clients are counted from 1, and the calls of each client from 1.
+    /// A client's call has its answer. Clients are counted from 1, and the calls of each client from 1. `Lines` keeps the answer alone:
+    /// its place tells the rest.
     Answered {
         client: u32,
         call: u32,

@@ -204,8 +204,5 @@ dealt_more table trace place old new client ready stacks d = record {
   ready = (ready, d.ready);
 }
 
-pub dealt_none : (table : TableView) (trace : Trace) (place : ℕ) (workers : List ClientWorker) → place ≡ trace.clients → DealtFrom table trace place workers
-dealt_none table trace place workers all = record { clients = []; all = omega (arith, all); stacked = tt; ready = tt }
-
 pub dealt_all : (table : TableView) (trace : Trace) (workers : List ClientWorker) → DealtFrom table trace 0 workers → IsDealt table trace workers
 dealt_all table trace workers d = record { clients = d.clients; all = (let all = d.all in omega (arith, all)); stacked = d.stacked; ready = d.ready }

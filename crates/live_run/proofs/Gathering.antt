@@ -1,21 +1,18 @@
 -- What is gathered of the clients, one after another.
 use Rattle.std.specs.Global.{Vec}
-use Rattle.std.proofs.Common.{◌≡◌, ℕ, suc, ◌+◌, ◌<◌, ◌≤◌, Bool, true, false, cond, List, [], ◌∷◌, ◌++◌, length, map, vec_len, vec_capacity, refl, sym, ap, ◌∙◌, subst, arith, length-append, append_assoc, append-nil}
-use Rattle.std.specs.Prelude.{All, ◌==◌, nat_le}
-use Rattle.std.specs.List.{filter, range_with_len}
-use Rattle.std.proofs.lemmas.Bool.Decides.{nat_tests}
+use Rattle.std.proofs.Common.{◌≡◌, ℕ, suc, ◌+◌, ◌<◌, ◌≤◌, List, [], ◌∷◌, ◌++◌, length, map, vec_len, vec_capacity, refl, sym, ap, ◌∙◌, subst, arith, length-append, append_assoc, append-nil}
+use Rattle.std.specs.Prelude.{All}
+use Rattle.std.specs.List.{range_with_len}
 use Rattle.std.proofs.lemmas.List.{length-map, map-append}
 use Rattle.std.proofs.lemmas.List.Elements.{All-map, All-nil, All-push, All-weaker}
-use Rattle.clock_gate.specs.declared.trace.CallRow.{CallRow}
 use Rattle.clock_gate.specs.declared.trace.Trace.{Trace}
 use Rattle.interval_now.specs.declared.answers.Answer.{Answer}
 use Rattle.segment_views.specs.Views.{SeatView}
 use Rattle.segment_rule.specs.Calls.{ClientState}
 use Rattle.segment_rule.specs.Ruled.{TableView}
 use Rattle.segment_rule.specs.Settled.{IsSameBut, AreSettled}
-use Rattle.lawful_report.specs.Composed.{tries_of_client}
 use Rattle.live_report.specs.declared.line.Line.{Line}
-use Rattle.live_report.specs.ClientCalls.{AllClientCalls, answer_lines, client_lines}
+use Rattle.live_report.specs.ClientCalls.{AllClientCalls, client_lines}
 use Rattle.live_report.specs.DaemonCalls.{DaemonPlace, DaemonCalls, place_first}
 use Rattle.live_report.specs.LiveRun.{setup_of, host_done, IsRunOf}
 use Rattle.live_report.proofs.Chains.{same_but_on, settled_on}

@@ -1,6 +1,6 @@
 -- The host's rows, one after another.
 use Rattle.std.proofs.Common.{◌≡◌, ℕ, ◌+◌, ◌≤◌, List, [], ◌∷◌, ◌++◌, length, drop, Option, Some, None, slice_get, sym, ap, ◌∙◌, subst, arith, length-append}
-use Rattle.std.proofs.lemmas.List.{drop_more, drop_all}
+use Rattle.std.proofs.lemmas.List.{drop_more}
 use Rattle.std.proofs.lemmas.Option.{slice_get_within, get_or_from_slice_get}
 use Rattle.clock_gate.specs.declared.trace.HostRow.{HostRow}
 use Rattle.clock_gate.specs.declared.trace.HostRow.TheVariants.{Clock, Page, Disrupt}
@@ -57,6 +57,3 @@ pub left_next : (rows : List HostRow) (done : ℕ) (row : HostRow) (part : HostP
 left_next rows done row part at =
     let more : drop done rows ≡ row ∷ drop (done + 1) rows = drop_more rows done row (slice_get_within rows done row at) ∙ ap (λ r. r ∷ drop (done + 1) rows) (get_or_from_slice_get rows done row row at) in
     ap (λ (l : List HostRow). part_after_rows l part) (sym more)
-
-pub left_none : (rows : List HostRow) (done : ℕ) (part : HostPart) → length rows ≤ done → part_after_rows (drop done rows) part ≡ part
-left_none rows done part all = ap (λ (l : List HostRow). part_after_rows l part) (drop_all done rows all)

@@ -26,12 +26,6 @@ pub stands_first : (clock : List ClockRow) (first : SeatView) (s : ClientState) 
 stands_first clock first s at rest =
     record { last = first; calls = refl; rests = λ e. at; fresh = λ e f. not_both s.in_hand e rest; begun = λ e f. not_both s.in_hand e rest }
 
--- a call is taken in hand
-pub stands_begun : (clock : List ClockRow) (tries : List ℕ) (answers : List Answer) (first : SeatView) (s t : ClientState) → s.in_hand ≡ false → t.in_hand ≡ true → t.begun ≡ false → t.view ≡ s.view
-    → Stands clock tries answers first s → Stands clock tries answers first t
-stands_begun clock tries answers first s t rest hand fresh view st =
-    record { last = st.last; calls = st.calls; rests = λ e. not_both t.in_hand hand e; fresh = λ e f. view ∙ st.rests rest; begun = λ e f. not_both t.begun f fresh }
-
 -- what a step of a call in hand leaves
 pub record HasStepped (s t : ClientState) : Type 0 where
   pub setup : t.view.setup ≡ s.view.setup
@@ -48,12 +42,6 @@ follows clock tries answers first s t false is hand step st =
 follows clock tries answers first s t true is hand step st =
     let at = st.begun hand is in
     (step.setup ∙ at.0, step.later is ∙ at.1, step.before_later is ∙ at.2)
-
--- the call goes on
-pub stands_going : (clock : List ClockRow) (tries : List ℕ) (answers : List Answer) (first : SeatView) (s t : ClientState) → s.in_hand ≡ true → t.in_hand ≡ true → t.begun ≡ true → HasStepped s t
-    → Stands clock tries answers first s → Stands clock tries answers first t
-stands_going clock tries answers first s t hand on begun step st =
-    record { last = st.last; calls = st.calls; rests = λ e. not_both t.in_hand on e; fresh = λ e f. not_both t.begun begun f; begun = λ e f. follows clock tries answers first s t s.begun refl hand step st }
 
 -- or has ended
 pub stands_ended : (clock : List ClockRow) (calls : List ℕ) (answers : List Answer) (tries : ℕ) (answer : Answer) (first : SeatView) (s t : ClientState) → s.in_hand ≡ true → t.in_hand ≡ false → HasStepped s t

@@ -1,5 +1,5 @@
 -- Room for a run.
-use Rattle.std.specs.Prelude.{◌≡◌, ◌+◌, ◌*◌, ◌<◌, ◌≤◌, List, [], All, length, vec_len, vec_capacity}
+use Rattle.std.specs.Prelude.{◌≡◌, ◌*◌, ◌<◌, ◌≤◌, List, [], All, length, vec_len, vec_capacity}
 use Rattle.clock_gate.specs.declared.clock_row.ClockRow.{ClockRow}
 use Rattle.clock_gate.specs.declared.trace.Trace.{Trace}
 use Rattle.segment_rule.specs.Ruled.{TableView}

@@ -1,3 +1,4 @@
+//! The poller: reads the replies ahead of the daemon.
 ghost use Rattle.std.specs.Prelude.{◌≡◌, ◌≤◌, length};
 ghost use Rattle.clock_gate.specs.declared.limits.TheConstants.{MOST_POLLS};
 ghost use Rattle.feed_queue.specs.Feeds.{IsNext};

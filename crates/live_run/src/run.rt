@@ -1,3 +1,4 @@
+//! The whole run of a trace.
 ghost use Rattle.std.specs.List.{range_with_len};
 ghost use Rattle.std.specs.Prelude.{◌≡◌, ◌≤◌, ◌<◌, ◌++◌, true, false, length, map, All, IfOk};
 ghost use Rattle.clock_gate.specs.declared.limits.TheConstants.{MOST_CLIENTS};

@@ -1,9 +1,9 @@
-use Rattle.std.proofs.Common.{rules, ◌≤◌, ◌≡◌, ◌+◌, List, [], ◌∷◌, drop, length, arith, ap, sym, subst, ◌∙◌}
+use Rattle.std.proofs.Common.{rules, ◌≤◌, ◌≡◌, ◌+◌, List, [], ◌∷◌, drop, length, arith, ap, sym, ◌∙◌}
 use Rattle.std.proofs.lemmas.List.{drop_all, drop_more}
 use Rattle.interval_now.specs.declared.answers.Answer.{Answer}
 use Rattle.lawful_report.specs.declared.counts.Counts.{Counts}
 use Rattle.live_report.specs.declared.limits.TheConstants.{MOST_LINES}
-use Rattle.live_report.specs.Counted.{AreUpTo, answers_counted}
+use Rattle.live_report.specs.Counted.{answers_counted}
 use Rattle.live_report.proofs.Parts.{up_to_more}
 use Rattle.live_report.proofs.counts.answers_counted.Goals as goal
 

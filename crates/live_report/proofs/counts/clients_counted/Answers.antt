@@ -1,9 +1,9 @@
-use Rattle.std.proofs.Common.{slice_index_or, ◌≡◌, ◌+◌, ◌-◌, ◌≤◌, List, [], ◌∷◌, drop, length, arith, ap, sym, subst, ◌∙◌}
+use Rattle.std.proofs.Common.{slice_index_or, ◌≡◌, ◌+◌, ◌-◌, List, [], ◌∷◌, drop, length, arith, ap, sym, ◌∙◌}
 use Rattle.std.proofs.lemmas.List.{drop_all, drop_more}
 use Rattle.interval_now.specs.declared.answers.Answer.{Answer}
 use Rattle.lawful_report.specs.declared.counts.Counts.{Counts}
 use Rattle.live_report.specs.declared.limits.TheConstants.{MOST_LINES}
-use Rattle.live_report.specs.Counted.{AreUpTo, answers_counted, answers_in, clients_counted}
+use Rattle.live_report.specs.Counted.{answers_counted, answers_in, clients_counted}
 use Rattle.live_report.proofs.Parts.{answers_in_more, up_to_more}
 use Rattle.live_report.proofs.counts.clients_counted.Goals as goal
 

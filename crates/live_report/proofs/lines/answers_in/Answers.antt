@@ -1,4 +1,4 @@
-use Rattle.std.proofs.Common.{◌≡◌, ◌+◌, [], drop, length, arith, ap}
+use Rattle.std.proofs.Common.{◌≡◌, drop, length, arith, ap}
 use Rattle.std.proofs.lemmas.List.{drop_all}
 use Rattle.live_report.specs.Counted.{answers_in}
 use Rattle.live_report.proofs.Parts.{answers_in_more}

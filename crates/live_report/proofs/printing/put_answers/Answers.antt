@@ -3,7 +3,6 @@ use Rattle.std.specs.Prelude.{vec_items}
 use Rattle.std.proofs.lemmas.List.{drop_all, drop_more}
 use Rattle.interval_now.specs.declared.answers.Answer.{Answer}
 use Rattle.lawful_report.specs.declared.printed.Printed.TheVariants as printed
-use Rattle.lawful_report.specs.Lines.{line_text}
 use Rattle.lawful_report.specs.Lawful.{text_of_lines}
 use Rattle.live_report.specs.ClientCalls.{answer_lines}
 use Rattle.live_report.specs.LiveReport.{lines_printed, page_told}

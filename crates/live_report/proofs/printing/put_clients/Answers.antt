@@ -1,4 +1,4 @@
-use Rattle.std.proofs.Common.{slice_index_or, ◌≡◌, ◌≤◌, ◌+◌, ◌++◌, [], ◌∷◌, ℕ, List, drop, length, arith, ap, sym, ◌∙◌, append_assoc, append-nil}
+use Rattle.std.proofs.Common.{slice_index_or, ◌≡◌, ◌+◌, ◌++◌, [], ◌∷◌, ℕ, List, drop, length, arith, ap, sym, ◌∙◌, append_assoc, append-nil}
 use Rattle.std.specs.Prelude.{vec_items}
 use Rattle.std.specs.List.{range_with_len}
 use Rattle.std.proofs.lemmas.List.{drop_all, drop_more}

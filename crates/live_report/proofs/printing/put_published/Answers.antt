@@ -4,7 +4,6 @@ use Rattle.vmclock_page.specs.Counting.{page_number_of}
 use Rattle.vmclock_page.specs.Host.{count_of}
 use Rattle.lawful_report.specs.declared.printed.Printed.TheVariants as printed
 use Rattle.lawful_report.specs.Lines.{line_text}
-use Rattle.lawful_report.specs.Lawful.{text_of_lines}
 use Rattle.live_report.specs.LiveReport.{stop_of, stop_printed}
 use Rattle.live_report.proofs.ReportLines.{text_then}
 use Rattle.live_report.proofs.printing.put_published.Goals as goal

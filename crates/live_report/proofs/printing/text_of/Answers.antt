@@ -1,4 +1,4 @@
-use Rattle.std.proofs.Common.{ℕ, List, length, ◌≡◌, ◌++◌, ap, sym, ◌∙◌, append_assoc}
+use Rattle.std.proofs.Common.{ℕ, length, ◌++◌, ap, sym, ◌∙◌}
 use Rattle.std.specs.Prelude.{vec_items}
 use Rattle.std.specs.List.{range_with_len}
 use Rattle.lawful_report.specs.declared.counts.Counts.{Counts}

@@ -1,6 +1,5 @@
-use Rattle.std.proofs.Common.{rules, ◌≡◌, ◌+◌, ◌<◌, ◌≤◌, vec_len, vec_capacity, refl, sym, ap, ◌∙◌, subst, arith}
+use Rattle.std.proofs.Common.{rules, ◌≡◌, ◌+◌, ◌<◌, ◌≤◌, refl, ap, ◌∙◌, subst, arith}
 use Rattle.std.proofs.lemmas.Option.{same_Some}
-use Rattle.clock_gate.specs.declared.limits.TheConstants.{MOST_CLIENTS}
 use Rattle.live_run.specs.declared.clients.Client.{Client}
 use Rattle.live_run.specs.declared.gather.Gathered.{Gathered}
 use Rattle.live_run.specs.Gathered.{WasGathered}

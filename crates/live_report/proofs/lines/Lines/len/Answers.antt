@@ -1,6 +1,5 @@
-use Rattle.std.proofs.Common.{◌≡◌, ◌+◌, ◌++◌, length, length-append, ap, arith}
+use Rattle.std.proofs.Common.{length, length-append, ap, arith}
 use Rattle.std.specs.List.{range_with_len}
-use Rattle.live_report.specs.declared.line.Line.{Line}
 use Rattle.live_report.specs.ClientCalls.{client_lines}
 use Rattle.live_report.proofs.Parts.{as_many_lines}
 use Rattle.live_report.proofs.lines.Lines.len.Goals as goal
